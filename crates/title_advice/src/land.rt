@@ -9,7 +9,8 @@ const MOST_BYTES: usize = 1_000;
 const OUT_OF_RANGE: &str =
     "a township and a range have numbers from 1 to 99, and a section from 1 to 36";
 
-const TOO_SMALL: &str = "a part is smaller than 2.5 acres, the smallest that a plant keeps";
+const TOO_SMALL: &str =
+    "a part is narrower than 330 feet, a side of the smallest square that a plant keeps";
 
 const LOT: &str = "a government lot can't be read, for only its plat says which land it is";
 

@@ -25,7 +25,7 @@ fn late_advice(script: &Script<'_>, n: u64) -> Result<String, AllocError> {
 // What is wrong with a step inside the transaction of another examiner.
 fn inside_advice(script: &Script<'_>, n: u64) -> Result<String, AllocError> {
     let begins = script.before(n, Sought::Begin)?;
-    let Some(begin) = begins.last else {
+    let Some(begin) = begins.first else {
         return String::from_str(script.alloc, "another examiner's transaction is open");
     };
     let opened = match script.row(begin)? {

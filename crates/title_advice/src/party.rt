@@ -4,9 +4,7 @@ use crate::quoted::Quoted;
 use crate::script::{Script, Sought, field};
 use csv::StringRecord;
 use std::alloc::AllocError;
-
-// The party that needs no row.
-const FIRST_PARTY: &str = "UNITED STATES";
+use title_plan::FIRST_PARTY;
 
 // What is wrong with the row of a party that is there already.
 fn again_advice(script: &Script<'_>, n: u64, name: &str) -> Result<String, AllocError> {

@@ -102,7 +102,7 @@ fn office_advice(script: &Script<'_>, row: &StringRecord) -> Result<String, Allo
             if examiner > number {
                 return format!(in script.alloc;
                     "examiner {examiner} is none of this office, which has {number}; \
-                    say --examiners {examiner} for more"
+                    --examiners says how many, at most 64"
                 );
             }
         }

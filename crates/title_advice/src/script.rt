@@ -16,7 +16,8 @@ pub struct Script<'a> {
     pub bytes: &'a [u8],
 }
 
-// What rows are looked for: all townships, parties or steps, a party of this name, each begin, or each of this examiner.
+// What rows are looked for: townships, steps, a party of this name, the begins behind the last transaction that ended, or those of
+// this examiner.
 #[derive(Clone, Copy)]
 pub(crate) enum Sought<'a> {
     Township,
@@ -47,6 +48,11 @@ fn has(row: &ByteRecord, index: usize, text: &str) -> bool {
     }
 }
 
+// Whether a row ends a transaction.
+fn is_end(row: &ByteRecord) -> bool {
+    has(row, 1, "commit") || has(row, 1, "abort")
+}
+
 // Whether a row declares something.
 pub(crate) fn is_declaration(row: &ByteRecord) -> bool {
     has(row, 0, "township") || has(row, 0, "party")
@@ -60,6 +66,11 @@ fn is_sought(sought: Sought<'_>, row: &ByteRecord) -> bool {
         Sought::Begin => has(row, 1, "begin"),
         Sought::BeginOf(examiner) => has(row, 0, examiner) && has(row, 1, "begin"),
     }
+}
+
+// Whether what was found before a row counts no more behind it.
+fn is_forgotten(sought: Sought<'_>, row: &ByteRecord) -> bool {
+    matches!(sought, Sought::Begin) && is_end(row)
 }
 
 impl Found {
@@ -110,6 +121,8 @@ impl Script<'_> {
             }
             if is_sought(sought, &row) {
                 found.add(at);
+            } else if is_forgotten(sought, &row) {
+                found = Found::default();
             }
             at = at.saturating_add(1);
         }

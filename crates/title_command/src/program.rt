@@ -292,7 +292,7 @@ township alone, as T3N R2W, and everything are tracts too.
 Faults, in place of the rows, with status 1:
   fault,21,BYTE         nothing that is a description goes on as this one does at this byte
   fault,22              a township or range isn't 1 to 99, or a section isn't 1 to 36
-  fault,23              a part is smaller than 2.5 acres
+  fault,23              a part is narrower than 330 feet, a side of 2.5 acres
   fault,24              a government lot, which has no place in this plant
   fault,25              two parts share land
   fault,6               out of memory",

@@ -1,20 +1,23 @@
 -- What a clerk's calls come to.
-use Rattle.std.proofs.Common.{◌≡◌, ◌⊎◌, ◌++◌, ◌∷◌, ◌||◌, ◌∙◌, [], refl, ap, sym, subst, inl, inr, ℕ, List, true, false, arith, length}
-use Rattle.std.{proofs.Common.{IfErr, IfOk, Result, Ok, Err, nat_le, not}, specs.{Prelude.{codes}, Fmt.{decimal}, List.{list_any}}}
-use Rattle.std.proofs.lemmas.{Bool.{not-false, not-true}, List.{length-append}}
-use Rattle.title_land.specs.{declared.survey.Township.{Township}, Survey.{same_township}}
+use Rattle.std.proofs.Common.{◌≡◌, ◌⊎◌, ◌++◌, ◌∷◌, ◌∙◌, [], refl, ap, sym, subst, inl, inr, ℕ, List, true, false, length}
+use Rattle.std.{proofs.Common.{IfErr, IfOk, Result, Ok, Err, nat_le, not}, specs.{Prelude.{codes}, Fmt.{decimal}}}
+use Rattle.std.proofs.lemmas.Bool.{not-false, not-true}
+use Rattle.title_land.specs.declared.survey.Township.{Township}
 use Rattle.title_store.specs.Plants.{Plant}
 use Rattle.title_chain.specs.declared.record.Record.{Record}
-use Rattle.title_trace.specs.{declared.call.Call.{Call}, Due.{MayOpen, Setting, most_townships}}
+use Rattle.title_trace.specs.{declared.call.{Call.{Call}, Request.{Request}}, Due.{Setting}}
 use Rattle.title_desk.specs.{Headline.{Headline}, Singles.{IsIdle}}
-use Rattle.title_plan.specs.{Plans.{after_act, with_line, with_township}, Townships.{each_once}, declared.fault.ScriptFault.{ScriptFault}}
-use Rattle.title_plan.specs.{declared.{line.Line.{Line}, row.Act.{Act}}, Laws.Declarations.{once_said, township_few, township_once}}
+use Rattle.title_aliquot.specs.declared.fault.DescFault.{DescFault}
+use Rattle.title_trace.specs.declared.call.Request.TheVariants as request
+use Rattle.title_plan.specs.{Plans.{with_line, with_township}, Requests.{after_request, request_of}, Townships.{is_refused}}
+use Rattle.title_plan.specs.declared.{fault.ScriptFault.{ScriptFault}, row.Act.{Act}}
+use Rattle.title_plan.specs.Laws.Acts.{act_asks}
 use Rattle.title_plan.specs.declared.fault.ScriptFault.TheVariants as fault
 use Rattle.title_plan.specs.declared.line.Schedule.TheVariants as schedule
 use Rattle.title_plan.specs.declared.row.Row.TheVariants as row
 use Rattle.title_counter.specs.Counters.{Answered, Counter, aborted, asked_at, counted, due_answer, due_found, due_said, fault_number}
-use Rattle.title_counter.specs.{Counters.{or_fault, passed_over, served, setting_at, township_answer}, Founds.{found_in}, Views.{IsFault}}
-use Rattle.title_counter.specs.{Limits.{longest_line}, Sessions.{Ends, MayAnswer}, declared.found.Found.{Found}}
+use Rattle.title_counter.specs.{Counters.{or_fault, passed_over, served, setting_at, township_answer}, Founds.{found_in}}
+use Rattle.title_counter.specs.{Limits.{longest_line}, Sessions.{Ends, MayAnswer}, Views.{IsFault, line_in}, declared.found.Found.{Found}}
 
 -- ---- results
 
@@ -26,31 +29,26 @@ pub if_err : {T E : Type 0} {P Q : E → Type 0} (r : Result T E) → IfErr r P 
 if_err (Ok x) p f = tt
 if_err (Err e) p f = f e p
 
--- ---- townships
-
--- a desk can be opened with a township more, where that isn't refused
-pub may_open_more : (townships : List Township) (t : Township) → each_once townships ≡ true
-    → (nat_le most_townships (length townships) || list_any (λ other. same_township other t) townships) ≡ false
-    → MayOpen 65536 (townships ++ t ∷ [])
-may_open_more townships t once free = (
-  omega arith,
-  omega arith,
-  rw length-append (township_few townships t free),
-  once_said (townships ++ t ∷ []) (township_once townships t once free),
-)
-
 -- ---- steps
 
--- an act asks for one step
-pub step_due : (c : Counter) (e : ℕ) (a : Act (List ℕ)) (l : Line) (answer : Answered)
-    → after_act schedule.Interleaved 1 (asked_at c) e a ≡ Ok (with_line (asked_at c) l []) → served c l ≡ answer
-    → due_said c (row.Step e a) ≡ Ok answer
-step_due c e a l answer h is = rw h (ap (λ (x : Answered). Ok x) is)
+-- what an examiner asks is one step
+one_step : (c : Counter) (e : ℕ) (asks : Result Request DescFault)
+    → after_request schedule.Interleaved 1 (asked_at c) e asks ≡ Ok (with_line (asked_at c) (line_in e asks) [])
+one_step c e (Ok (request.Begin f)) = refl
+one_step c e (Ok (request.Commit f)) = refl
+one_step c e (Ok (request.Abort f)) = refl
+one_step c e (Ok (request.Step f a)) = refl
+one_step c e (Err why) = refl
+
+pub step_due : (c : Counter) (e : ℕ) (a : Act (List ℕ)) (asks : Result Request DescFault) (answer : Answered)
+    → request_of 1 c.names e a ≡ Ok asks → served c (line_in e asks) ≡ answer → due_said c (row.Step e a) ≡ Ok answer
+step_due c e a asks answer h is =
+    rw (act_asks schedule.Interleaved 1 (asked_at c) e a, h, one_step c e asks) (ap (λ (x : Answered). Ok x) is)
 
 pub step_fault : (c : Counter) (e : ℕ) (a : Act (List ℕ)) (why : ScriptFault)
-    → (why ≡ fault.Memory) ⊎ (after_act schedule.Interleaved 1 (asked_at c) e a ≡ Err why) → IsFault (due_said c (row.Step e a)) why
+    → (why ≡ fault.Memory) ⊎ (request_of 1 c.names e a ≡ Err why) → IsFault (due_said c (row.Step e a)) why
 step_fault c e a why (inl memory) = inl memory
-step_fault c e a why (inr h) = inr (rw h refl)
+step_fault c e a why (inr h) = inr (rw (act_asks schedule.Interleaved 1 (asked_at c) e a, h) refl)
 
 -- ---- rows
 
@@ -107,7 +105,7 @@ ends_of c es setting trace content records same is idle headline = record {
 
 -- a township is declared, and there is a new desk
 pub township_declared : (c : Counter) (t : Township) (townships : List Township) (n : ℕ) (trace : List Call)
-    → (nat_le most_townships (length c.townships) || list_any (λ other. same_township other t) c.townships) ≡ false
+    → is_refused c.townships t ≡ false
     → c.shut ≡ false → (c.shut ≡ false → c.trace ≡ []) → townships ≡ c.townships ++ t ∷ [] → n ≡ length townships → trace ≡ []
     → township_answer c (with_township 1 (asked_at c) t) ≡ Ok (record {
       rows = (codes "township" ∷ decimal n ∷ []) ∷ [];
@@ -126,11 +124,11 @@ township_declared c t townships n trace free unbegun unasked items number none =
 
 -- one that is refused, and one that comes too late
 pub township_refused : (c : Counter) (t : Township)
-    → (nat_le most_townships (length c.townships) || list_any (λ other. same_township other t) c.townships) ≡ true
+    → is_refused c.townships t ≡ true
     → IsFault (township_answer c (with_township 1 (asked_at c) t)) (fault.Row 1)
 township_refused c t shut = inr (rw shut refl)
 
 pub township_late : (c : Counter) (t : Township)
-    → (nat_le most_townships (length c.townships) || list_any (λ other. same_township other t) c.townships) ≡ false
+    → is_refused c.townships t ≡ false
     → c.shut ≡ true → IsFault (township_answer c (with_township 1 (asked_at c) t)) (fault.Order 1)
 township_late c t free begun = inr (rw (free, begun) refl)

@@ -1,23 +1,23 @@
 -- What the code has, as definitions speak of it.
-use Rattle.std.specs.{Prelude.{◌≡◌, ◌⊎◌, ℕ, List, [], ◌∷◌, codes, map, Result, Err}, Fmt.{decimal}, String.{string_bytes}}
+use Rattle.std.specs.{Prelude.{◌≡◌, ◌⊎◌, ℕ, List, [], ◌∷◌, codes, map, Result, Ok, Err}, Fmt.{decimal}, String.{string_bytes}}
+use Rattle.title_aliquot.specs.declared.fault.DescFault.{DescFault}
+use Rattle.title_trace.specs.declared.call.Request.{Request}
 use Rattle.title_plan.specs.{Asked.{Asked}, Onto.{asked_on, before_in}, declared.{fault.ScriptFault.{ScriptFault}, line.Line.{Line}}}
 use Rattle.title_plan.specs.declared.onto.Declared.{Declared}
 use Rattle.title_plan.specs.declared.fault.ScriptFault.TheVariants as fault
 use Rattle.title_plan.specs.declared.line.Line.TheVariants as line
 use Rattle.title_report.specs.Replies.{described_row, reply_rows}
 use Rattle.title_counter.specs.{Counters.{Answered, Counter, fault_number}, declared.{answer.Answer.{Answer}, clerk.Clerk.{Clerk}}}
-use Rattle.title_counter.specs.declared.wish.Wish.{Wish}
 use Rattle.title_counter.specs.declared.answer.Answer.TheVariants as answer
-use Rattle.title_counter.specs.declared.wish.Wish.TheVariants as wish
 
 -- what is declared, and no step
 abbrev pub asked_of : Declared → Asked
 asked_of declared = asked_on (before_in declared)
 
--- a wish as a step of a script
-abbrev pub line_in : Wish → Line
-line_in (wish.Asks q) = line.Asks q
-line_in (wish.Described e why) = line.Described e why
+-- what an examiner asks, as a step of a script
+abbrev pub line_in : ℕ → Result Request DescFault → Line
+line_in e (Ok q) = line.Asks q
+line_in e (Err why) = line.Described e why
 
 -- what a clerk's rows have come to
 abbrev pub counter_of : Clerk → Counter

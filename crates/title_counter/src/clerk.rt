@@ -1,11 +1,13 @@
 //! The clerk, who takes rows one after another.
 
-ghost use Rattle.std.specs.Prelude.{◌≡◌, ◌⊎◌, ◌<◌, ◌≤◌, ◌+◌, ◌^◌, [], Ok, Err, IfErr, IfOk, MatchResult, OnErr, false, map};
-ghost use Rattle.std.specs.String.{string_bytes};
+ghost use Rattle.std.specs.Prelude.{◌≡◌, ◌⊎◌, ◌<◌, ◌≤◌, ◌+◌, ◌^◌, ◌∷◌, ◌++◌, [], Ok, Err, IfErr, IfOk, MatchResult, OnErr};
+ghost use Rattle.std.specs.{Prelude.{false, length, map, true}, String.{string_bytes}};
 ghost use Rattle.csv.specs.Records.{fields_of};
 ghost use Rattle.title_chain.specs.Alone.{most_parties};
 ghost use Rattle.title_plan.specs.declared.fault.ScriptFault.TheVariants as fault;
 ghost use Rattle.title_plan.specs.{Lands.{land_in}, Plans.{understood, with_township}, Rows.{done, said}};
+ghost use Rattle.title_plan.specs.Townships.{each_once, is_refused};
+ghost use Rattle.title_trace.specs.Due.{most_townships};
 ghost use Rattle.title_plan.specs.Plans as plans;
 ghost use Rattle.title_script.specs.Served.{after_call, reply_to};
 ghost use Rattle.title_counter.specs.Counters.{asked_at, counted, due_found, due_said, due_understood, opening, served, passed_over};
@@ -14,16 +16,18 @@ ghost use Rattle.title_counter.specs.declared.found.Found.TheVariants as found;
 ghost use Rattle.title_plan.specs.declared.row.Row.TheVariants as row;
 
 use crate::answer::Answer;
-use crate::declaring::{add_party, is_refused, with_one_more};
 use crate::found::{Found, read_line};
 use crate::line_start::LineStart;
-use crate::wish::{Wish, read_wish};
 use csv::{ByteRecord, StringRecord};
 use std::alloc::{AllocError, Global};
+use title_aliquot::DescFault;
 use title_desk::Desk;
-use title_land::{Land, Township};
+use title_land::Township;
 use title_lock::{Guards, NodeLocks};
-use title_plan::{Act, Declared, Readings, Row, ScriptFault, read_row};
+use title_plan::{
+    Act, Declared, Readings, Row, ScriptFault, add_party, add_township, is_full, is_refused,
+    read_row, request_of, said_township,
+};
 use title_store::Store;
 use title_trace::{MOST_PARTIES, Reply, Request};
 use title_tree_store::TreeStore;
@@ -58,6 +62,23 @@ fn ask<S: Store + Drop, G: Guards + Drop>(
         Reply::Memory => Err(AllocError),
         reply => Ok(reply),
     }
+}
+
+// Townships and one more, which isn't refused.
+fn with_one_more(
+    alloc: Global,
+    townships: &[Township],
+    township: Township,
+) -> Result<Vec<Township>, AllocError>
+    requires free { is_refused townships.now township ≡ false }
+    requires once { each_once townships.now ≡ true }
+    ensures more { IfOk result (λ v. v.items ≡ townships.now ++ township ∷ []) }
+    ensures few { IfOk result (λ v. length v.items ≤ most_townships) }
+    ensures once { IfOk result (λ v. each_once v.items ≡ true) }
+{
+    let mut more = Vec::from_slice(alloc, townships)?;
+    add_township(&mut more, township)?;
+    Ok(more)
 }
 
 impl Clerk {
@@ -148,13 +169,10 @@ impl Clerk {
         ensures err { IfErr result (IsFault (township_answer (counter_of self.old)
             (plans.after_township 1 (asked_at (counter_of self.old)) (land_in text.now)))) }
     {
-        let Ok(tract) = self.readings.read(text)? else {
+        let Some(township) = said_township(self.readings.read(text)?) else {
             return Err(ScriptFault::Row(1));
         };
-        match tract.land() {
-            Land::Township(township) => self.declare_township(township),
-            _ => Err(ScriptFault::Row(1)),
-        }
+        self.declare_township(township)
     }
 
     fn take_party(&mut self, name: &str) -> Result<Answer, ScriptFault>
@@ -163,27 +181,37 @@ impl Clerk {
         ensures kept { OnErr result (counter_of self.new ≡ counter_of self.old) }
         ensures err { IfErr result (IsFault (due_said (counter_of self.old) (row.Party name.now))) }
     {
-        let number = add_party(self.alloc, &mut self.declared, name)?;
+        if is_full(&self.declared.parties) {
+            return Err(ScriptFault::Row(1));
+        }
+        let number = self.declared.parties.len() as u64;
+        if !add_party(self.alloc, &mut self.declared.parties, name)? {
+            return Err(ScriptFault::Party(1));
+        }
         Ok(Answer::Party(number))
     }
 
-    // Serves what a step row asks.
-    fn serve(&mut self, wish: Wish) -> Result<Answer, ScriptFault>
+    // Serves what an examiner's step row asks, or tells the fault of its description.
+    fn serve(
+        &mut self,
+        examiner: u32,
+        asked: Result<Request, DescFault>,
+    ) -> Result<Answer, ScriptFault>
         requires fresh { self.old.steps < self.old.rows }
-        ensures ok { IfOk result (λ a. served (counter_of self.old) (line_in wish) ≡ answered a self.new) }
+        ensures ok { IfOk result (λ a. served (counter_of self.old) (line_in examiner asked) ≡ answered a self.new) }
         ensures rows { self.new.rows ≡ self.old.rows }
         ensures kept { OnErr result (counter_of self.new ≡ counter_of self.old) }
         ensures memory { IfErr result (λ e. e ≡ fault.Memory) }
     {
-        match wish {
-            Wish::Asks(request) => {
+        match asked {
+            Ok(request) => {
                 let examiner = request.examiner();
                 let reply = ask(&mut self.desk, request)?;
                 self.steps += 1;
                 self.shut = true;
                 Ok(Answer::Replied(examiner, reply))
             }
-            Wish::Described(examiner, why) => {
+            Err(why) => {
                 self.steps += 1;
                 self.shut = true;
                 Ok(Answer::Described(examiner, why))
@@ -198,14 +226,15 @@ impl Clerk {
         ensures kept { OnErr result (counter_of self.new ≡ counter_of self.old) }
         ensures err { IfErr result (IsFault (due_said (counter_of self.old) (row.Step examiner (done act.now)))) }
     {
-        let wish = read_wish(
+        let asked = request_of(
             self.alloc,
             &mut self.readings,
-            &self.declared,
+            &self.declared.parties,
+            1,
             examiner,
             act,
         )?;
-        self.serve(wish)
+        self.serve(examiner, asked)
     }
 
     // Takes what a row says.

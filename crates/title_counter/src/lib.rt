@@ -4,7 +4,6 @@
 mod answer;
 mod clerk;
 mod closing;
-mod declaring;
 mod fault;
 mod found;
 pub mod laws;
@@ -12,7 +11,6 @@ mod line_start;
 mod lines;
 mod reading;
 mod session;
-mod wish;
 
 pub use clerk::Clerk;
 pub use fault::CounterFault;

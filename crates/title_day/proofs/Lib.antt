@@ -4,5 +4,4 @@ pub mod OfficeCauses
 pub mod OfficeCounts
 pub mod OfficeOrder
 pub mod OfficeReported
-pub mod OneOutcomeEach
 mod StoodOutcomes

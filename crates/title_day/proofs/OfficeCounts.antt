@@ -1,16 +1,17 @@
 -- The tallies of an office's day tell what came of each transaction that its script asks for.
-use Rattle.std.proofs.Common.{◌≡◌, ◌∙◌, ◌+◌, ℕ, suc, List, [], ◌∷◌, ◌++◌, length, map, filter, refl, sym, ap, arith}
-use Rattle.std.proofs.{Common.{Option, Some, None, length-append}, lemmas.List.{append_assoc, length-map, Sums.{sum_by-cons}}}
-use Rattle.std.specs.List.{flat_map}
+use Rattle.std.proofs.Common.{◌≡◌, ◌∙◌, ◌+◌, ℕ, suc, List, [], ◌∷◌, ◌++◌, length, map, filter, reverse, sum, refl, sym, ap, ap₂}
+use Rattle.std.proofs.{Common.{Option, Some, None, arith, length-append, subst}, lemmas.List.{append_assoc, length-map, length-reverse}}
+use Rattle.std.{proofs.lemmas.List.{reverse-reverse, Folds.{flat_map-map}, Sums.{sum_by-cons}}, specs.List.{flat_map}}
 use Rattle.title_plan.specs.declared.line.Line.{Line}
 use Rattle.title_chain.specs.declared.record.Record.{Record}
-use Rattle.title_settle.specs.{Settling.{IsSettled}, declared.outcome.Outcome.{Outcome}}
-use Rattle.title_turns.specs.declared.script.Script.{Script}
-use Rattle.title_office.specs.{declared.fault.Fault.{Fault}, Workers.{AreCounted, examiners_of}}
-use Rattle.title_dealing.specs.Dealing.{dealt_in, AreDealt, IsDealt}
+use Rattle.title_trace.specs.Due.{Setting}
+use Rattle.title_settle.specs.{Settling.{IsSettled}, SettledLaws.{AsMany}, declared.outcome.Outcome.{Outcome}}
+use Rattle.title_turns.specs.{declared.script.Script.{Script}, Dealt.{Dealt, dealt_in}}
+use Rattle.title_office.specs.{declared.fault.Fault.{Fault}, Transactions.{AreRunsOf}, Workers.{AreCounted, examiners_of}}
+use Rattle.title_dealing.specs.Dealing.{AreDealt, IsDealt}
 use Rattle.title_day.specs.{declared.tally.Tally.{Tally}, OfficeReports.{is_begin_of, AreTallies}}
-use Rattle.title_day.specs.OfficeDays.{AreTold, committed_by, first_there, tally_of}
-use Rattle.title_day.proofs.{Begun.{as_many_as_begun}, OneOutcomeEach.{as_many_outcomes_as_records}}
+use Rattle.title_day.specs.{OfficeDays.{AreTold, committed_by, first_there, tally_of}, OfficeRecords.{AreMadeOf, placed}}
+use Rattle.title_day.proofs.{Begun.{as_many_as_begun}, StoodOutcomes.{length_placed}}
 
 -- a script that was dealt has a transaction for each begin of its examiner
 as_many_as_begins : (lines : List Line) (e : ℕ) (script : Script) → IsDealt lines e script →
@@ -79,40 +80,48 @@ worked_told seen ws scripts ex outs aborted given_up flt is same counted none =
     (ap (λ left. first_there (map flt left)) (sym is) ∙ sym none)
 
 -- the tallies count the outcomes
-outcomes_counted : {W : Type 0} (ws : List W) (ex : W → ℕ) (outs : W → List Outcome) (aborted given_up : W → ℕ) →
-    committed_by (map (λ w. tally_of (ex w) (outs w) (aborted w) (given_up w)) ws) ≡ length (flat_map outs ws)
-outcomes_counted [] ex outs aborted given_up = refl
-outcomes_counted (w ∷ ws) ex outs aborted given_up =
-    sum_by-cons (λ (n : ℕ). n) (length (outs w))
-    (map (λ (t : Tally). t.committed) (map (λ w. tally_of (ex w) (outs w) (aborted w) (given_up w)) ws))
-    ∙ ap (λ (n : ℕ). length (outs w) + n) (outcomes_counted ws ex outs aborted given_up)
-    ∙ sym (length-append (outs w) (flat_map outs ws))
+committed_are : {W : Type 0} (ws : List W) (ex : W → ℕ) (outs : W → List Outcome) (aborted given_up : W → ℕ) →
+    map (λ t. t.committed) (map (λ w. tally_of (ex w) (outs w) (aborted w) (given_up w)) ws) ≡ map length (map outs ws)
+committed_are [] ex outs aborted given_up = refl
+committed_are (w ∷ ws) ex outs aborted given_up =
+    ap (λ (ns : List ℕ). length (outs w) ∷ ns) (committed_are ws ex outs aborted given_up)
 
--- where the outcomes are the records, the tallies count the records
-pub records_counted : {W : Type 0} (seen ws : List W) (tallies : List Tally) (outcomes : List Outcome) (records : List Record)
-    (ex : W → ℕ) (outs : W → List Outcome) (aborted given_up : W → ℕ) → seen ≡ ws →
-    tallies ≡ map (λ w. tally_of (ex w) (outs w) (aborted w) (given_up w)) seen → outcomes ≡ flat_map outs ws →
-    IsSettled records outcomes → committed_by tallies ≡ length records
-records_counted seen ws tallies outcomes records ex outs aborted given_up is told gathered settled =
-    ap committed_by (told ∙ ap (λ left. map (λ w. tally_of (ex w) (outs w) (aborted w) (given_up w)) left) is)
-    ∙ outcomes_counted ws ex outs aborted given_up ∙ ap length (sym gathered)
-    ∙ as_many_outcomes_as_records records outcomes settled
-
--- the same where others stood before them
-pub all_counted : {W : Type 0} (seen ws : List W) (tallies : List Tally) (stood outcomes : List Outcome) (records : List Record)
-    (ex : W → ℕ) (outs : W → List Outcome) (aborted given_up : W → ℕ) → seen ≡ ws →
+-- where the outcomes are the records, these are made of what stood and of what the workers have committed of their scripts
+pub made_of : {W : Type 0} (setting : Setting) (scripts : List (ℕ × List Dealt)) (seen ws : List W) (tallies : List Tally)
+    (old : List Record) (stood outcomes : List Outcome) (records : List Record) (ex : W → ℕ) (outs : W → List Outcome)
+    (aborted given_up : W → ℕ) → seen ≡ ws →
     tallies ≡ map (λ w. tally_of (ex w) (outs w) (aborted w) (given_up w)) seen → outcomes ≡ stood ++ flat_map outs ws →
-    IsSettled records outcomes → committed_by tallies + length stood ≡ length records
-all_counted seen ws tallies stood outcomes records ex outs aborted given_up is told gathered settled =
-    let own : committed_by tallies ≡ length (flat_map outs ws) =
-    ap committed_by (told ∙ ap (λ left. map (λ w. tally_of (ex w) (outs w) (aborted w) (given_up w)) left) is)
-    ∙ outcomes_counted ws ex outs aborted given_up in
+    IsSettled records outcomes → stood ≡ placed 1 old → AreRunsOf setting scripts (map outs ws) →
+    AreMadeOf setting scripts (reverse old) tallies records
+made_of setting scripts seen ws tallies old stood outcomes records ex outs aborted given_up is told gathered settled stands runs = record {
+  runs = map outs ws;
+  runs_are = runs;
+  tallied = ap (map (λ (t : Tally). t.committed))
+      (told ∙ ap (map (λ w. tally_of (ex w) (outs w) (aborted w) (given_up w))) is) ∙ committed_are ws ex outs aborted given_up;
+  are_records = subst (IsSettled records)
+      (gathered ∙ ap₂ (λ (first rest : List Outcome). first ++ rest) (stands ∙ ap (placed 1) (sym (reverse-reverse old)))
+      (sym (flat_map-map (λ (run : List Outcome). run) outs ws))) settled;
+}
+
+lengths_joined : {A : Type 0} (runs : List (List A)) → sum (map length runs) ≡ length (flat_map (λ run. run) runs)
+lengths_joined [] = refl
+lengths_joined (run ∷ runs) =
+    sum_by-cons (λ (n : ℕ). n) (length run) (map length runs)
+    ∙ ap (λ (n : ℕ). length run + n) (lengths_joined runs)
+    ∙ sym (length-append run (flat_map (λ more. more) runs))
+
+-- so the tallies count the records behind what stood
+pub made_many : AsMany → (setting : Setting) (scripts : List (ℕ × List Dealt)) (stood : List Record) (tallies : List Tally)
+    (records : List Record) → AreMadeOf setting scripts stood tallies records → committed_by tallies + length stood ≡ length records
+made_many as_many setting scripts stood tallies records made =
+    let own = ap sum made.tallied ∙ lengths_joined made.runs in
     omega (
       arith,
       own,
-      ap length gathered,
-      length-append stood (flat_map outs ws),
-      as_many_outcomes_as_records records outcomes settled,
+      as_many records (placed 1 (reverse stood) ++ flat_map (λ run. run) made.runs) made.are_records,
+      length-append (placed 1 (reverse stood)) (flat_map (λ run. run) made.runs),
+      length_placed 1 (reverse stood),
+      length-reverse stood,
     )
 
 -- one worker's outcomes more are gathered

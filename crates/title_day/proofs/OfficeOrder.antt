@@ -1,9 +1,10 @@
--- The seats of an office and the scripts dealt for it are of the same examiners, in order.
-use Rattle.std.proofs.Common.{◌≡◌, ◌∙◌, ◌+◌, ℕ, zero, suc, List, [], ◌∷◌, ◌++◌, length, refl, sym, ap, ap₂, arith}
+-- The seats of an office and the scripts dealt for it are of the same examiners, in order, and have the transactions asked for.
+use Rattle.std.proofs.Common.{◌≡◌, ◌∙◌, ◌+◌, ℕ, zero, suc, List, [], ◌∷◌, ◌++◌, length, map, refl, sym, ap, ap₂, arith}
 use Rattle.title_plan.specs.declared.line.Line.{Line}
-use Rattle.title_turns.specs.declared.script.Script.{Script}
+use Rattle.title_turns.specs.{declared.script.Script.{Script}, Dealt.{Dealt, told_by}}
 use Rattle.title_office.specs.{Offices.{SeatState, opening_seats}, Workers.{examiners_of, seat_examiners}}
 use Rattle.title_dealing.specs.Dealing.{AreDealt}
+use Rattle.title_day.specs.OfficeRecords.{scripts_in}
 
 -- so many numbers from one on
 abbrev numbers_from : ℕ → ℕ → List ℕ
@@ -42,3 +43,16 @@ pub seats_fit : (lines : List Line) (scripts : List Script) (number k : ℕ) →
     seat_examiners (opening_seats number k) ≡ examiners_of scripts
 seats_fit lines scripts number k many dealt =
     seats_in_order number k ∙ ap (numbers_from 1) (sym many) ∙ sym (scripts_in_order lines 1 scripts dealt)
+
+-- the scripts that are dealt from an examiner on have the transactions that are asked for
+asked_from : (lines : List Line) (e : ℕ) (scripts : List Script) → AreDealt lines e scripts →
+    map told_by scripts ≡ scripts_in lines e (length scripts)
+asked_from lines e [] dealt = refl
+asked_from lines e (s ∷ scripts) dealt =
+    ap₂ (λ (own : ℕ × List Dealt) (rest : List (ℕ × List Dealt)). own ∷ rest)
+    (ap₂ (λ (n : ℕ) (ts : List Dealt). (n, ts)) dealt.0.0 dealt.0.1)
+    (asked_from lines (suc e) scripts dealt.1)
+
+pub scripts_asked : (lines : List Line) (scripts : List Script) (number : ℕ) → length scripts ≡ number → AreDealt lines 1 scripts →
+    map told_by scripts ≡ scripts_in lines 1 number
+scripts_asked lines scripts number many dealt = asked_from lines 1 scripts dealt ∙ ap (scripts_in lines 1) many

@@ -5,11 +5,11 @@ use Rattle.std.{proofs.lemmas.List.{reverse-append, take_more, length-take, Elem
 use mathlib.Core.List.{IsPrefix}
 use Rattle.title_chain.specs.declared.record.Record.{Record}
 use Rattle.title_settle.specs.{declared.outcome.Outcome.{Outcome}, Settling.{IsPlace, IsSettled, outcomes_at}}
-use Rattle.title_day.specs.DaysOn.{placed}
+use Rattle.title_day.specs.OfficeRecords.{placed}
 
 -- ---- placing
 
-length_placed : (n : ℕ) (records : List Record) → length (placed n records) ≡ length records
+pub length_placed : (n : ℕ) (records : List Record) → length (placed n records) ≡ length records
 length_placed n [] = refl
 length_placed n (r ∷ records) = ap suc (length_placed (suc n) records)
 
@@ -122,7 +122,3 @@ goes_on records old stood all others is joined settled =
     let sorted = subst (IsSettled records) (joined ∙ ap (λ (os : List Outcome). os ++ others) is) settled in
     let front = begins_with old records (stood_there records old others sorted) in
     (reverse front.0, ap reverse (sym front.1) ∙ reverse-append old front.0)
-
--- the outcomes of what stood are as many
-pub stood_many : (n : ℕ) (stood : List Outcome) (records : List Record) → stood ≡ placed n records → length stood ≡ length records
-stood_many n stood records is = ap length is ∙ length_placed n records

@@ -1,17 +1,17 @@
 -- An office's day on top of records that stood. A list of what stood has the newest record first; the records of a day, and outcomes,
 -- have the oldest first.
-use Rattle.std.specs.Prelude.{◌≡◌, ◌+◌, ◌-◌, ℕ, suc, List, [], ◌∷◌, ◌++◌, length, map, reverse, sum}
+use Rattle.std.specs.Prelude.{◌≡◌, ◌+◌, ◌-◌, ℕ, List, ◌∷◌, ◌++◌, length, map, reverse, sum}
 use Rattle.title_land.specs.{Depth.{depth}, declared.survey.Township.{Township}}
 use Rattle.title_chain.specs.{declared.record.Record.{Record}, Alone.{IsSerial}}
 use Rattle.title_trace.specs.{declared.call.Call.{Call}, Trace.{committed}, Due.{IsDue, Setting}}
-use Rattle.title_settle.specs.declared.outcome.Outcome.{Outcome}
-use Rattle.title_turns.specs.declared.script.Script.{Script}
+use Rattle.title_turns.specs.{declared.script.Script.{Script}, Dealt.{told_by}}
 use Rattle.title_office.specs.{Offices.{opening_seats}, Workers.{examiners_of, seat_examiners}}
 use Rattle.title_plan.specs.{declared.line.Line.{Line}, Asked.{Asked}}
 use Rattle.title_dealing.specs.Dealing.{AreDealt}
 use Rattle.title_report.specs.Replies.{end_row, reply_rows}
 use Rattle.title_page.specs.Rows.{row, rows_text}
-use Rattle.title_day.specs.{declared.tally.Tally.{Tally}, OfficeDays.{AreTold}}
+use Rattle.title_script.specs.Reports.{setting_of}
+use Rattle.title_day.specs.{declared.tally.Tally.{Tally}, OfficeDays.{AreTold}, OfficeRecords.{AreMadeOf, scripts_in}}
 use Rattle.title_day.specs.{OfficeReports.{AreTallies, closing_sheet}, Tallies.{settled_row, tally_row}}
 
 -- ---- scripts
@@ -22,18 +22,17 @@ SeatsFit =
     (office number : ℕ) (lines : List Line) (scripts : List Script) → length scripts ≡ number → AreDealt lines 1 scripts
     → seat_examiners (opening_seats office number) ≡ examiners_of scripts
 
+-- they have the transactions that rows ask for
+abbrev pub DealtAreAsked : Type 0
+DealtAreAsked =
+    (lines : List Line) (number : ℕ) (scripts : List Script) → length scripts ≡ number → AreDealt lines 1 scripts
+    → map told_by scripts ≡ scripts_in lines 1 number
+
 -- what is told of them are the tallies of what was asked for, one for each
 abbrev pub ToldAreTallies : Type 0
 ToldAreTallies =
     (lines : List Line) (scripts : List Script) (tallies : List Tally) → AreDealt lines 1 scripts → AreTold scripts tallies
     → AreTallies lines 1 tallies × (length tallies ≡ length scripts)
-
--- ---- what stood, as outcomes
-
--- these records, each with its place, from a place on
-abbrev pub placed : ℕ → List Record → List Outcome
-placed n [] = []
-placed n (r ∷ records) = record { place = n; rec = r } ∷ placed (suc n) records
 
 -- ---- the day
 
@@ -53,6 +52,7 @@ pub record IsDayOn (number : ℕ) (asked : Asked) (stood : List Record) (tallies
   pub many : length tallies ≡ number
   pub tallies_are : AreTallies asked.lines 1 tallies
   pub counted : sum (map (λ t. t.committed) tallies) + length stood ≡ length records
+  pub made : AreMadeOf (setting_of asked) (scripts_in asked.lines 1 number) stood tallies records
 
 -- the text of its report: so many records stood before, the others are counted, and the closing sheet is of all
 abbrev pub closing_text_on : List Township → (names : List (List ℕ)) → (steps : ℕ) → List Tally → (stood : ℕ) → List Record → List ℕ

@@ -11,7 +11,8 @@ use Rattle.title_trace.specs.declared.call.Reply.TheVariants as reply
 use Rattle.title_trace.specs.declared.denial.Denial.TheVariants as denial
 use Rattle.title_plan.specs.{declared.line.Line.{Line}, Asked.{Asked}}
 use Rattle.title_plan.specs.declared.line.Line.TheVariants as line
-use Rattle.title_day.specs.{declared.tally.Tally.{Tally}, Tallies.{settled_row, tally_row}}
+use Rattle.title_script.specs.Reports.{setting_of}
+use Rattle.title_day.specs.{declared.tally.Tally.{Tally}, OfficeRecords.{AreMadeOf, scripts_in}, Tallies.{settled_row, tally_row}}
 use Rattle.title_report.specs.Replies.{reply_rows, end_row}
 use Rattle.title_page.specs.Rows.{row, rows_text}
 
@@ -47,9 +48,13 @@ abbrev pub AreTallies : List Line → ℕ → List Tally → Type 0
 AreTallies lines e [] = Unit {0}
 AreTallies lines e (t ∷ rest) = IsTally lines e t × AreTallies lines (suc e) rest
 
--- a text is a report of an office's script
-abbrev pub IsOfficeReport : ℕ → Asked → List ℕ → Type 0
-IsOfficeReport number asked text =
-    (tallies : List Tally) × (records : List Record) × IsSerial depth asked.townships (reverse records)
-    × (length tallies ≡ number) × AreTallies asked.lines 1 tallies × (sum (map (λ t. t.committed) tallies) ≡ length records)
-    × (text ≡ office_text asked tallies records)
+-- a text is a report of an office's script: serial records of transactions that its rows commit stand behind it
+pub record IsOfficeReport (number : ℕ) (asked : Asked) (text : List ℕ) : Type 0 where
+  pub tallies : List Tally
+  pub records : List Record
+  pub serial : IsSerial depth asked.townships (reverse records)
+  pub many : length tallies ≡ number
+  pub tallies_are : AreTallies asked.lines 1 tallies
+  pub counted : sum (map (λ t. t.committed) tallies) ≡ length records
+  pub made : AreMadeOf (setting_of asked) (scripts_in asked.lines 1 number) [] tallies records
+  pub text_is : text ≡ office_text asked tallies records

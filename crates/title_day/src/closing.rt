@@ -6,8 +6,7 @@ ghost use Rattle.title_land.specs.Depth.{depth};
 ghost use Rattle.title_chain.specs.Alone.{IsSerial};
 ghost use Rattle.title_store.specs.Plants.{IsEachOnce};
 ghost use Rattle.title_page.specs.{Pages.{Stopped, Written}, Rows.{rows_text}};
-ghost use Rattle.title_day.specs.{Closings.{closed_rows, closed_text}, DaysOn.{closing_text_on}};
-ghost use Rattle.title_day.specs.OfficeReports.{closing_sheet, closing_text};
+ghost use Rattle.title_day.specs.{Closings.{closed_rows, closed_text}, DaysOn.{closing_text_on}, OfficeReports.{closing_sheet}};
 
 use crate::tally::{Tally, put_settled, put_tallies};
 use indexmap::IndexSet;
@@ -50,32 +49,9 @@ fn closing_sheet(
     Ok(Reply::Answered(Answer::Rows(rows)))
 }
 
-/// What the report of a settled office shows. `Err` is Memory.
+/// What the report of a settled office shows, on whose desk so many of the records stood before: the others are counted, and the closing
+/// sheet is of all. `Err` is Memory.
 pub fn close_office(
-    alloc: Global,
-    names: IndexSet<String>,
-    townships: &[Township],
-    steps: usize,
-    tallies: Vec<Tally>,
-    records: &Records,
-) -> Result<Closing, AllocError>
-    requires once { IsEachOnce townships.now }
-    requires serial { IsSerial depth townships.now (reverse records.now) }
-    ensures text { IfOk result (λ closing. closed_text closing
-        ≡ closing_text townships.now (map string_bytes names.keys) steps tallies.items records.now) }
-{
-    let sheet = closing_sheet(alloc, townships, records)?;
-    Ok(Closing {
-        names,
-        tallies,
-        records: records.as_slice().len(),
-        sheet,
-        steps,
-    })
-}
-
-/// The same where so many of the records stood before the office was opened: its own are counted, and the closing sheet is of all.
-pub fn close_office_on(
     alloc: Global,
     names: IndexSet<String>,
     townships: &[Township],

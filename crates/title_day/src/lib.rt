@@ -4,14 +4,13 @@
 mod closing;
 pub mod laws;
 mod office_day;
-mod office_day_on;
 mod office_fault;
 mod office_runs;
 mod tally;
+mod worked;
 
-pub use closing::{Closing, close_office, close_office_on, write_closing};
-pub use office_day::Day;
-pub use office_day_on::run_day_on;
+pub use closing::{Closing, close_office, write_closing};
+pub use office_day::{Day, run_day_on};
 pub use office_fault::OfficeFault;
 pub use office_runs::run_office;
 pub use tally::Tally;

@@ -1,25 +1,32 @@
-//! An office's day: it is opened, its scripts are run, and it is settled.
+//! An office's day: it is opened on a desk, its scripts are run, and it is settled.
 
-ghost use Rattle.std.specs.{Prelude.{◌≡◌, ◌≤◌, ◌++◌, IfErr, IfOk, OnOk, length, map, reverse}, List.{flat_map}};
+ghost use Rattle.std.specs.Prelude.{◌≡◌, ◌≤◌, ◌+◌, [], IfErr, IfOk, List, ℕ, length, map, reverse};
 ghost use Rattle.title_land.specs.Depth.{depth};
+ghost use Rattle.title_store.specs.Plants.{IsEachOnce};
 ghost use Rattle.title_chain.specs.Alone.{IsSerial};
-ghost use Rattle.title_trace.specs.Due.{MayOpen};
-ghost use Rattle.title_office.specs.{Offices.{most_seats, opening_seats}, Workers.{examiners_of, seat_examiners}};
-ghost use Rattle.title_day.specs.OfficeDays.{AreTold, IsOfficeTrouble, committed_by, first_there, tally_of};
+ghost use Rattle.title_chain.specs.declared.record.Record.{Record as RecordOf};
+ghost use Rattle.title_trace.specs.{Due.{MayOpen}, Trace.{committed}};
+ghost use Rattle.title_turns.specs.Dealt.{Dealt, told_by};
+ghost use Rattle.title_office.specs.{Offices.{most_seats, opening_seats}, Transactions.{AreRunsOf}};
+ghost use Rattle.title_office.specs.Workers.{examiners_of, seat_examiners};
+ghost use Rattle.title_day.specs.{DaysOn.{GoesOnFrom}, OfficeDays.{AreTold, IsOfficeTrouble, committed_by, tally_of}};
+ghost use Rattle.title_day.specs.OfficeRecords.{AreMadeOf, placed};
 
 use crate::office_fault::OfficeFault;
 use crate::tally::Tally;
+use crate::worked::{first_fault, gather, tallies};
 use std::alloc::{AllocError, Global};
-use std::collections::VecDeque;
 use std::marker::Brand;
 use std::sync::Wait;
 use std::thread::Threads;
-use title_chain::Records;
+use title_chain::{Record, Records};
+use title_desk::Desk;
 use title_land::Township;
-use title_office::{
-    Fault, Ledger, Office, OpenGate, Opened, Outcome, Room, Script, Seat, Worked, work,
-};
+use title_lock::NodeLocks;
+use title_office::{Ledger, Office, OpenGate, Opened, Outcome, Room, Script, Seat, Worked, work};
 use title_script::RunFault;
+use title_settle::laws::as_many_outcomes_as_records;
+use title_tree_store::TreeStore;
 
 /// What a settled office leaves: a tally for each examiner, in order, and the committed records in the order of their commits.
 #[derive(Drop)]
@@ -28,80 +35,29 @@ pub struct Day {
     pub records: Records,
 }
 
-/// The number by which the office tells its own seats and slips.
-pub(crate) const OFFICE: u64 = 1;
+// The number by which the office tells its own seats and slips.
+const OFFICE: u64 = 1;
 
-/// Nobody looks at it while its scripts run.
-pub(crate) const VIEWERS: u32 = 0;
+// Nobody looks at it while its scripts run.
+const VIEWERS: u32 = 0;
 
-// The fault of the first worker that has ended with one.
-fn first_fault<B: Room>(worked: &[Worked<B>]) -> Option<Fault>
-    ensures first { result ≡ first_there (map (λ w. w.fault) worked.now) }
+// Records as outcomes, each with its place.
+fn outcomes_of(alloc: Global, records: &[Record]) -> Result<Vec<Outcome>, AllocError>
+    ensures outcomes { IfOk result (λ v. v.items ≡ placed 1 records.now) }
 {
-    for one in worked {
-        if let Some(why) = one.fault {
-            return Some(why);
-        }
+    let mut outcomes = Vec::new(alloc);
+    for (index, rec) in records.iter().enumerate() {
+        let copied = rec.copy(alloc)?;
+        outcomes.push(Outcome {
+            place: index as u64 + 1,
+            rec: copied,
+        })?;
     }
-    None
+    Ok(outcomes)
 }
 
-// What came of a worker's transactions.
-fn tally<B: Room>(worked: &Worked<B>) -> Tally
-    ensures tally { result ≡ tally_of worked.now.examiner worked.now.outcomes.items worked.now.aborted worked.now.given_up }
-{
-    Tally {
-        examiner: worked.examiner,
-        committed: worked.outcomes.len() as u64,
-        aborted: worked.aborted,
-        given_up: worked.given_up,
-    }
-}
-
-/// What came of each worker's transactions.
-pub(crate) fn tallies<B: Room>(
-    alloc: Global,
-    worked: &[Worked<B>],
-) -> Result<Vec<Tally>, AllocError>
-    ensures tallies { IfOk result (λ v. v.items
-        ≡ map (λ w. tally_of w.examiner w.outcomes.items w.aborted w.given_up) worked.now) }
-{
-    let mut tallies = Vec::new(alloc);
-    for one in worked {
-        tallies.push(tally(one))?;
-    }
-    Ok(tallies)
-}
-
-/// Moves the outcomes of a worker behind those of others.
-pub(crate) fn move_behind(
-    gathered: &mut VecDeque<Outcome>,
-    outcomes: Vec<Outcome>,
-) -> Result<(), AllocError>
-    ensures moved { OnOk result (gathered.new.items ≡ gathered.old.items ++ outcomes.items) }
-{
-    let mut outcomes = VecDeque::from(outcomes);
-    gathered.append(&mut outcomes)
-}
-
-/// The outcomes of all workers.
-pub(crate) fn gather<B: Room>(
-    alloc: Global,
-    worked: Vec<Worked<B>>,
-) -> Result<Vec<Outcome>, AllocError>
-    ensures outcomes { IfOk result (λ v. v.items ≡ flat_map (λ w. w.outcomes.items) worked.items) }
-{
-    let mut gathered = VecDeque::new(alloc);
-    let mut rest = VecDeque::from(worked);
-    while let Some(one) = rest.pop_front() {
-        let Worked { outcomes, .. } = one;
-        move_behind(&mut gathered, outcomes)?;
-    }
-    Ok(Vec::from(gathered))
-}
-
-/// Runs the scripts; the fault of the first worker that has ended with one ends the day.
-pub(crate) fn run_scripts<B: Room + Send + Sync, T: Threads + Wait + Sync>(
+// Runs the scripts; the fault of the first worker that has ended with one ends the day.
+fn run_scripts<B: Room + Send + Sync, T: Threads + Wait + Sync>(
     rt: &T,
     alloc: Global,
     office: &Office<B>,
@@ -112,6 +68,7 @@ pub(crate) fn run_scripts<B: Room + Send + Sync, T: Threads + Wait + Sync>(
     requires fits { seat_examiners seats.items ≡ examiners_of scripts.items }
     ensures told { IfOk result (λ v. AreTold scripts.items
         (map (λ w. tally_of w.examiner w.outcomes.items w.aborted w.given_up) v.items)) }
+    ensures runs { IfOk result (λ v. AreRunsOf B.setting (map told_by scripts.items) (map (λ w. w.outcomes.items) v.items)) }
     ensures why { IfErr result IsOfficeTrouble }
 {
     let Ok(worked) = work(rt, alloc, office, seats, scripts, tries, &OpenGate) else {
@@ -123,24 +80,28 @@ pub(crate) fn run_scripts<B: Room + Send + Sync, T: Threads + Wait + Sync>(
     }
 }
 
-// Settles the office with what the workers know, and ends it.
+// Settles the office with what stood and what the workers know, and ends it.
 fn settle<B: Room, T: Wait>(
     rt: &T,
     alloc: Global,
     office: Office<B>,
+    stood: Vec<Outcome>,
     worked: Vec<Worked<B>>,
 ) -> Result<Day, OfficeFault>
     ensures tallies { IfOk result (λ day. day.tallies.items
         ≡ map (λ w. tally_of w.examiner w.outcomes.items w.aborted w.given_up) worked.items) }
-    ensures counted { IfOk result (λ day. committed_by day.tallies.items ≡ length day.records) }
-    ensures serial { IfOk result (λ day. IsSerial depth B.setting.townships (reverse day.records)) }
+    ensures made { (old : List RecordOf) (dealt : List (ℕ × List Dealt)) → stood.items ≡ placed 1 old
+        → AreRunsOf B.setting dealt (map (λ w. w.outcomes.items) worked.items)
+        → IfOk result (λ day. AreMadeOf B.setting dealt (reverse old) day.tallies.items day.records) }
+    ensures begins { (old : List RecordOf) → stood.items ≡ placed 1 old
+        → IfOk result (λ day. GoesOnFrom B.setting (reverse old) day.records) }
     ensures why { IfErr result IsOfficeTrouble }
 {
     let Ok(tallies) = tallies(alloc, worked.as_slice()) else {
         office.close(rt);
         return Err(OfficeFault::Run(RunFault::Memory));
     };
-    let Ok(outcomes) = gather(alloc, worked) else {
+    let Ok(outcomes) = gather(stood, worked) else {
         office.close(rt);
         return Err(OfficeFault::Run(RunFault::Memory));
     };
@@ -156,29 +117,36 @@ fn settle<B: Room, T: Wait>(
     }
 }
 
-// Opens an office without viewers, runs the scripts, settles it and ends it.
+// Opens an office without viewers on a desk, runs the scripts, settles it and ends it.
 fn keep_day<B: Room + Send + Sync, T: Threads + Wait + Sync>(
     rt: &T,
     alloc: Global,
     ledger: Ledger,
-    parties: u32,
+    desk: Desk<TreeStore, NodeLocks>,
     townships: &[Township],
     examiners: u32,
     scripts: Vec<Script>,
     tries: u32,
 ) -> Result<Day, OfficeFault>
     requires book { ledger ≡ B.book }
-    requires setting { B.setting ≡ record { parties = parties; townships = townships.now } }
-    requires may_open { MayOpen parties townships.now }
+    requires setting { B.setting ≡ desk.setting }
+    requires townships { townships.now ≡ desk.setting.townships }
+    requires once { IsEachOnce townships.now }
     requires seats { examiners ≤ most_seats }
     requires fits { seat_examiners (opening_seats 1 examiners) ≡ examiners_of scripts.items }
     ensures told { IfOk result (λ day. AreTold scripts.items day.tallies.items) }
-    ensures counted { IfOk result (λ day. committed_by day.tallies.items ≡ length day.records) }
-    ensures serial { IfOk result (λ day. IsSerial depth townships.now (reverse day.records)) }
+    ensures made { IfOk result (λ day. AreMadeOf desk.setting (map told_by scripts.items) (committed desk.trace) day.tallies.items
+        day.records) }
+    ensures counted { IfOk result (λ day. committed_by day.tallies.items + length (committed desk.trace) ≡ length day.records) }
+    ensures begins { IfOk result (λ day. GoesOnFrom desk.setting (committed desk.trace) day.records) }
     ensures why { IfErr result IsOfficeTrouble }
 {
-    let opened = Office::<B>::open(
-        rt, alloc, ledger, OFFICE, parties, townships, examiners, VIEWERS,
+    as_many_outcomes_as_records();
+    let Ok(stood) = outcomes_of(alloc, desk.records()) else {
+        return Err(OfficeFault::Run(RunFault::Memory));
+    };
+    let opened = Office::<B>::open_on(
+        rt, alloc, ledger, OFFICE, desk, townships, examiners, VIEWERS,
     );
     let Ok(opened) = opened else {
         return Err(OfficeFault::Run(RunFault::Memory));
@@ -189,7 +157,7 @@ fn keep_day<B: Room + Send + Sync, T: Threads + Wait + Sync>(
         viewers: _,
     } = opened;
     match run_scripts(rt, alloc, &office, seats, scripts, tries) {
-        Ok(worked) => settle(rt, alloc, office, worked),
+        Ok(worked) => settle(rt, alloc, office, stood, worked),
         Err(why) => {
             office.close(rt);
             Err(why)
@@ -197,8 +165,42 @@ fn keep_day<B: Room + Send + Sync, T: Threads + Wait + Sync>(
     }
 }
 
-/// Opens an office for parties numbered from 0 and these townships, runs each examiner's script by a thread of its own, and settles
-/// the office. Faults: that of the least examiner whose worker has ended with one; why the office can't be settled; Memory.
+/// Opens an office on a desk of these townships that has served what stands, runs each examiner's script by a thread of its own, and
+/// settles the office: the records are those that stood and, behind them, what the scripts' transactions have come to, each once. Faults:
+/// that of the least examiner whose worker has ended with one; why the office can't be settled; Memory.
+pub fn run_day_on<T: Threads + Wait + Sync>(
+    rt: &T,
+    alloc: Global,
+    desk: Desk<TreeStore, NodeLocks>,
+    townships: &[Township],
+    examiners: u32,
+    scripts: Vec<Script>,
+    tries: u32,
+) -> Result<Day, OfficeFault>
+    requires townships { townships.now ≡ desk.setting.townships }
+    requires once { IsEachOnce townships.now }
+    requires seats { examiners ≤ most_seats }
+    requires fits { seat_examiners (opening_seats 1 examiners) ≡ examiners_of scripts.items }
+    ensures told { IfOk result (λ day. AreTold scripts.items day.tallies.items) }
+    ensures made { IfOk result (λ day. AreMadeOf desk.setting (map told_by scripts.items) (committed desk.trace) day.tallies.items
+        day.records) }
+    ensures counted { IfOk result (λ day. committed_by day.tallies.items + length (committed desk.trace) ≡ length day.records) }
+    ensures begins { IfOk result (λ day. GoesOnFrom desk.setting (committed desk.trace) day.records) }
+    ensures why { IfErr result IsOfficeTrouble }
+{
+    keep_day::<Brand, _>(
+        rt,
+        alloc,
+        Ledger::new(),
+        desk,
+        townships,
+        examiners,
+        scripts,
+        tries,
+    )
+}
+
+/// The same on a new desk, for parties numbered from 0 and these townships.
 pub(crate) fn run_day<T: Threads + Wait + Sync>(
     rt: &T,
     alloc: Global,
@@ -212,18 +214,12 @@ pub(crate) fn run_day<T: Threads + Wait + Sync>(
     requires seats { examiners ≤ most_seats }
     requires fits { seat_examiners (opening_seats 1 examiners) ≡ examiners_of scripts.items }
     ensures told { IfOk result (λ day. AreTold scripts.items day.tallies.items) }
+    ensures made { IfOk result (λ day. AreMadeOf (record { parties = parties; townships = townships.now }) (map told_by scripts.items) []
+        day.tallies.items day.records) }
     ensures counted { IfOk result (λ day. committed_by day.tallies.items ≡ length day.records) }
     ensures serial { IfOk result (λ day. IsSerial depth townships.now (reverse day.records)) }
     ensures why { IfErr result IsOfficeTrouble }
 {
-    keep_day::<Brand, _>(
-        rt,
-        alloc,
-        Ledger::new(),
-        parties,
-        townships,
-        examiners,
-        scripts,
-        tries,
-    )
+    let desk = Desk::open(alloc, parties, townships)?;
+    run_day_on(rt, alloc, desk, townships, examiners, scripts, tries)
 }

@@ -35,7 +35,7 @@ fn close_by_threads<T: Threads + Wait + Sync>(
     let count = parties.len() as u32;
     let plant = townships.as_slice();
     let day = run_day(rt, alloc, count, plant, examiners, scripts, tries)?;
-    let closing = close_office(alloc, parties, plant, steps, day.tallies, &day.records)?;
+    let closing = close_office(alloc, parties, plant, steps, day.tallies, 0, &day.records)?;
     Ok(closing)
 }
 

@@ -1,13 +1,13 @@
 -- What the rows of a block come to, one after another.
 use Rattle.std.specs.{Prelude.{ℕ, ◌+◌, ◌==◌, ◌&&◌, ◌||◌, cond, is_none, List, [], ◌∷◌, ◌++◌, codes, length, nat_le, nat_lt}, Fmt.{decimal}}
 use Rattle.std.specs.{Prelude.{Option, Some, None, Result, Ok, Err, Bool}, List.{list_any}, Str.{bytes_eq}}
-use Rattle.title_land.specs.{declared.{survey.Township.{Township}, tract.Land.{Land}}, Survey.{same_township}}
-use Rattle.title_land.specs.declared.tract.Land.TheVariants as land
+use Rattle.title_land.specs.declared.{survey.Township.{Township}, tract.Land.{Land}}
 use Rattle.title_aliquot.specs.declared.fault.DescFault.{DescFault}
 use Rattle.title_instrument.specs.declared.instrument.Instrument.{Instrument}
 use Rattle.title_chain.specs.{declared.{ask.Step.{Step}, record.Record.{Record}}, Alone.{most_parties}}
-use Rattle.title_trace.specs.Due.{most_steps, most_townships}
-use Rattle.title_plan.specs.{declared.row.{Act.{Act}, Row.{Row}}, Fields.{given}, Lands.{land_in}, Plans.{numbered}}
+use Rattle.title_trace.specs.Due.{most_steps}
+use Rattle.title_plan.specs.{declared.row.{Act.{Act}, Row.{Row}}, Fields.{given}, Lands.{land_in, said_township}, Plans.{numbered}}
+use Rattle.title_plan.specs.Townships.{is_refused}
 use Rattle.title_plan.specs.declared.row.Act.TheVariants as act
 use Rattle.title_plan.specs.declared.row.Row.TheVariants as row
 use Rattle.title_standing.specs.Records.{posted_step}
@@ -27,13 +27,8 @@ between stands = record { stands = stands; begun = None }
 
 abbrev pub with_township : Standing → Township → Option Progress
 with_township s t =
-    cond (nat_le most_townships (length s.townships) || list_any (λ other. same_township other t) s.townships) None
+    cond (is_refused s.townships t) None
     (Some (between (record { townships = s.townships ++ t ∷ []; names = s.names; records = s.records })))
-
--- the whole township that a text says
-abbrev pub said_township : Result Land DescFault → Option Township
-said_township (Ok (land.Township t)) = Some t
-said_township _ = None
 
 abbrev pub after_township : Standing → Result Land DescFault → Option Progress
 after_township s said = given (said_township said) (with_township s)

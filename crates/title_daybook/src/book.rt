@@ -2,7 +2,7 @@
 
 ghost use Rattle.std.specs.Prelude.{◌≡◌, ◌⊎◌, ◌∷◌, [], IfErr, IfOk, OnOk, None, Some};
 ghost use Rattle.csv.specs.Records.{fields_of};
-ghost use Rattle.title_daybook.specs.{KeptRows.{inside, said_land, said_township}, Lines.{said_by}};
+ghost use Rattle.title_daybook.specs.{KeptRows.{inside, said_land}, Lines.{said_by}};
 ghost use Rattle.title_daybook.specs.declared.fault.PlantFault.TheVariants as fault;
 ghost use Rattle.title_plan.specs.{Fields.{given}, Lands.{land_in}, Plans.{numbered}, Rows.{done, named, said}};
 ghost use Rattle.title_spelling.specs.Lands.{kept_land_in};
@@ -15,8 +15,8 @@ use itoa::Buffer;
 use std::alloc::{AllocError, Global};
 use title_chain::{Posting, Terms};
 use title_instrument::Instrument;
-use title_land::{Land, Township, Tract};
-use title_plan::{Act, Readings, Row, numbered, read_row};
+use title_land::Tract;
+use title_plan::{Act, Readings, Row, numbered, read_row, said_township};
 use title_spelling::read_cells;
 use title_standing::Deeds;
 use title_trace::MOST_STEPS;
@@ -43,19 +43,6 @@ fn read_land(
     }
     match readings.read(text)? {
         Ok(tract) => Ok(Some(tract)),
-        Err(_) => Ok(None),
-    }
-}
-
-// The whole township that a text says, where it says one.
-fn read_township(readings: &mut Readings, text: &str) -> Result<Option<Township>, AllocError>
-    ensures township { IfOk result (λ township. township ≡ said_township (land_in text.now)) }
-{
-    match readings.read(text)? {
-        Ok(tract) => match tract.land() {
-            Land::Township(township) => Ok(Some(township)),
-            _ => Ok(None),
-        },
         Err(_) => Ok(None),
     }
 }
@@ -218,7 +205,7 @@ impl Book {
         if self.begun.is_some() {
             return Err(PlantFault::Row(n));
         }
-        let Some(township) = read_township(&mut self.readings, text)? else {
+        let Some(township) = said_township(self.readings.read(text)?) else {
             return Err(PlantFault::Row(n));
         };
         self.stands.add_township(n, township)

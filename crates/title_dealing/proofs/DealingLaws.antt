@@ -2,12 +2,12 @@
 use Rattle.std.proofs.Common.{◌≡◌, ◌∙◌, ◌<◌, ◌+◌, ◌-◌, ◌==◌, ℕ, zero, suc, refl, sym, ap, subst, arith}
 use Rattle.std.proofs.{Common.{List, [], ◌∷◌, ◌++◌, length, set, get_or, replicate, map}, lemmas.List.{length-replicate}}
 use Rattle.std.proofs.lemmas.Bool.{cond-false, cond-true, eq-eqb, ne_eqb}
-use Rattle.title_dealing.specs.{Turns.{IsAskedBy}, Dealing.{AreDealt, told_by, told_of}}
+use Rattle.title_dealing.specs.{Turns.{IsAskedBy}, Dealing.{AreDealt, told_of}}
 use Rattle.title_dealing.specs.Dealing.{Hand, empty_hand, hand_of, with_line, with_line_each, with_lines_each, with_request}
 use Rattle.title_plan.specs.declared.line.Line.{Line}
 use Rattle.title_plan.specs.declared.line.Line.TheVariants as line
 use Rattle.title_trace.specs.{declared.call.Request.{Request}, Trace.{examiner_of}}
-use Rattle.title_turns.specs.declared.script.Script.{Script}
+use Rattle.title_turns.specs.{declared.script.Script.{Script}, Dealt.{told_by}}
 
 -- the last step comes before what the hands have
 last_dealt : (e : ℕ) (lines : List Line) (l : Line) (hands : List Hand) →

@@ -1,8 +1,7 @@
--- What the rows of an office ask for.
-use Rattle.std.proofs.Common.{All, ◌≡◌, ◌≤◌, ◌+◌, ◌∙◌, sym, ap, refl, ℕ, List, [], ◌∷◌, Bool, true, false, not, cond, ◌==◌, ◌||◌, ◌&&◌}
-use Rattle.std.{proofs.Common.{Option, None, Some, Result, Ok, Err, nat_le, nat_lt, length, subst, arith}, specs.List.{list_all, list_any}}
-use Rattle.std.{specs.Str.{bytes_eq, is_utf8}, proofs.lemmas.{Bool.Decides.{nat_tests}, List.Elements.{All-nil, All-push}}}
-use Rattle.std.proofs.lemmas.List.Sums.{fold-append}
+-- What a row of an office asks for.
+use Rattle.std.proofs.Common.{◌≡◌, ◌≤◌, ◌∙◌, sym, ap, refl, ℕ, List, [], ◌∷◌, Bool, true, false, not, cond, ◌==◌, ◌||◌}
+use Rattle.std.{proofs.Common.{Option, None, Some, Result, Ok, Err, nat_le, nat_lt, length, subst, arith}, specs.List.{list_any}}
+use Rattle.std.{specs.Str.{bytes_eq}, proofs.lemmas.{Bool.Decides.{nat_tests}, List.{Elements.{All-push}, Sums.{fold-append}}}}
 use Rattle.title_land.specs.{declared.{survey.Township.{Township}, tract.Land.{Land}}, Survey.{same_township}}
 use Rattle.title_land.specs.declared.tract.Land.TheVariants as land
 use Rattle.title_aliquot.specs.declared.fault.DescFault.{DescFault}
@@ -11,17 +10,14 @@ use Rattle.title_chain.specs.{Alone.{most_parties}, declared.ask.Ask.{Ask}}
 use Rattle.title_chain.specs.declared.ask.Ask.TheVariants as ask
 use Rattle.title_trace.specs.{Due.{most_townships}, Trace.{examiner_of}, declared.call.Request.{Request}}
 use Rattle.title_trace.specs.declared.call.Request.TheVariants as request
-use Rattle.title_plan.specs.{declared.{fault.ScriptFault.{ScriptFault}, row.{Act.{Act}, Row.{Row}}}, Asked.{Asked, nothing_asked}}
-use Rattle.title_plan.specs.{Lands.{land_in}, Limits.{most_rows}, Plans.{with_begun, with_ended, with_line, with_party}}
-use Rattle.title_plan.specs.Plans.{after_act, after_asked, after_post, after_row, after_rows, after_step_row, after_township}
-use Rattle.title_plan.specs.Plans.{after_understood, asked_of, going_on, is_inside, is_out_of_turn, numbered, post, rows_in, script_of}
+use Rattle.title_plan.specs.{declared.{fault.ScriptFault.{ScriptFault}, row.Act.{Act}}, Asked.{Asked}, Lands.{land_in}}
+use Rattle.title_plan.specs.Plans.{after_act, after_asked, after_post, after_step_row, after_township, asked_of, going_on, is_inside}
+use Rattle.title_plan.specs.Plans.{is_out_of_turn, numbered, post, with_begun, with_ended, with_line, with_party}
 use Rattle.title_plan.specs.declared.fault.ScriptFault.TheVariants as fault
 use Rattle.title_plan.specs.declared.line.Line.TheVariants as line
 use Rattle.title_plan.specs.declared.line.Schedule.TheVariants as schedule
 use Rattle.title_plan.specs.declared.row.Act.TheVariants as act
-use Rattle.title_plan.specs.declared.row.Row.TheVariants as row
-use Rattle.title_dealing.{specs.Turns.{IsAskedBy, IsOffice, OfficesKeepTurns, turn_on}, proofs.FromOne.{FromOne, Has, found_low}}
-use Rattle.title_dealing.proofs.TurnsOfOne.{begun, ended, stays, turned}
+use Rattle.title_dealing.{specs.Turns.{IsAskedBy, IsOffice, turn_on}, proofs.TurnsOfOne.{begun, ended, stays, turned}}
 
 -- ---- tests that a result has passed
 
@@ -130,37 +126,8 @@ kept_party number n asked next name h is =
 
 -- ---- rows
 
-kept_found : (number n : ℕ) (asked next : Asked) (found : Option (Row (List ℕ))) → Has FromOne found → IsOffice number asked
-    → after_understood (schedule.Office number) n asked found ≡ Ok next → IsOffice number next
-kept_found number n asked next None low h is = absurd (cc is)
-kept_found number n asked next (Some (row.Township text)) low h is = kept_township number n asked next (land_in text) h is
-kept_found number n asked next (Some (row.Party name)) low h is = kept_party number n asked next name h is
-kept_found number n asked next (Some (row.Step e a)) low h is = kept_step number n asked next e a h low.has is
-
-kept_row : (number n : ℕ) (asked next : Asked) (fields : List (List ℕ)) → IsOffice number asked
-    → after_row (schedule.Office number) n asked fields ≡ Ok next → IsOffice number next
-kept_row number n asked next fields h is =
-    kept_found number n asked next _ (found_low (nat_le n most_rows && list_all is_utf8 fields) fields) h is
-
+-- what comes after a row that isn't at fault
 pub went_on : {P : Type 0} (more : Asked → Result Asked ScriptFault) (next : Asked) (r : Result Asked ScriptFault)
     → ((after : Asked) → r ≡ Ok after → more after ≡ Ok next → P) → going_on more r ≡ Ok next → P
 went_on more next (Ok after) on is = on after refl is
 went_on more next (Err e) on is = absurd (cc is)
-
-kept_rows : (number n : ℕ) (asked next : Asked) (rows : List (List (List ℕ))) → IsOffice number asked
-    → after_rows (schedule.Office number) n asked rows ≡ Ok next → IsOffice number next
-kept_rows number n asked next [] h is = subst (λ (a : Asked). IsOffice number a) (same_ok asked next is) h
-kept_rows number n asked next (row ∷ rows) h is =
-    went_on (λ after. after_rows (schedule.Office number) (n + 1) after rows) next (after_row (schedule.Office number) n asked row)
-    (λ after one more. kept_rows number (n + 1) after next rows (kept_row number n asked after row h one) more) is
-
-nothing : (number : ℕ) → IsOffice number nothing_asked
-nothing number = record { examiners = All-nil (IsAskedBy number); turns = λ e. refl }
-
-pub office_kept : OfficesKeepTurns
-office_kept number bytes asked is = kept_rows number 1 nothing_asked asked (rows_in bytes) (nothing number) is
-
--- each step of an office's script is one of its examiners'
-pub each_is_asked : (number : ℕ) (bytes : List ℕ) (asked : Asked) → script_of (schedule.Office number) bytes ≡ Ok asked
-    → All (IsAskedBy number) asked.lines
-each_is_asked number bytes asked is = (office_kept number bytes asked is).examiners

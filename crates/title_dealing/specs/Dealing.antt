@@ -5,12 +5,7 @@ use Rattle.title_trace.specs.{declared.call.Request.{Request}, Trace.{examiner_o
 use Rattle.title_trace.specs.declared.call.Request.TheVariants as request
 use Rattle.title_plan.specs.declared.line.Line.{Line}
 use Rattle.title_plan.specs.declared.line.Line.TheVariants as line
-use Rattle.title_turns.specs.declared.script.{Script.{Script}, Transaction.{Transaction}}
-
--- a transaction: its asks in order, and whether it is committed
-pub record Dealt : Type 0 where
-  pub asks : List Ask
-  pub commits : Bool
+use Rattle.title_turns.specs.{declared.script.Script.{Script}, Dealt.{Dealt, dealt_in}}
 
 -- what an examiner's steps from some step on come to: the asks up to the end of the transaction that is open there, whether that is
 -- committed, and the transactions after it
@@ -54,14 +49,6 @@ with_lines_each e (l ∷ rest) hands = with_line_each e l (with_lines_each e res
 -- the transactions that an examiner's steps ask for, in order
 abbrev pub transactions_of : List Line → ℕ → List Dealt
 transactions_of lines e = (hand_of e lines).later
-
--- a transaction of a worker's script
-abbrev pub dealt_in : Transaction → Dealt
-dealt_in t = record { asks = t.asks.items; commits = t.commits }
-
--- the examiner of a worker's script and its transactions
-abbrev pub told_by : Script → ℕ × List Dealt
-told_by script = (script.examiner, map dealt_in script.transactions.items)
 
 -- what the scripts tell that the hands of the examiners from a number on come to
 abbrev pub told_of : ℕ → List Hand → List (ℕ × List Dealt)

@@ -1,7 +1,8 @@
 //! The steps of an office's script, dealt to its examiners.
 
 ghost use Rattle.std.specs.Prelude.{◌≡◌, ◌<◌, ◌^◌, All, IfOk, OnOk, length, map, replicate};
-ghost use Rattle.title_dealing.specs.{Turns.{IsAskedBy}, Dealing.{AreDealt, empty_hand, told_by, told_of, with_line_each, with_lines_each}};
+ghost use Rattle.title_dealing.specs.{Turns.{IsAskedBy}, Dealing.{AreDealt, empty_hand, told_of, with_line_each, with_lines_each}};
+ghost use Rattle.title_turns.specs.Dealt.{told_by};
 
 use crate::hand::Hand;
 use std::alloc::{AllocError, Global};

@@ -1,7 +1,8 @@
 //! What an examiner's steps come to, gathered from the last step to the first.
 
 ghost use Rattle.std.specs.Prelude.{◌≡◌, OnOk};
-ghost use Rattle.title_dealing.specs.Dealing.{empty_hand, told_by, with_request};
+ghost use Rattle.title_dealing.specs.Dealing.{empty_hand, with_request};
+ghost use Rattle.title_turns.specs.Dealt.{told_by};
 
 use std::alloc::{AllocError, Global};
 use std::collections::VecDeque;
@@ -23,13 +24,14 @@ pub(crate) struct Hand {
 impl Model for Hand {
     ghost use Rattle.std.specs.Prelude.{map};
     ghost use Rattle.title_dealing.specs.Dealing as dealing;
+    ghost use Rattle.title_turns.specs.Dealt.{dealt_in};
 
     ghost Value = { dealing.Hand };
 
     ghost view = { λ h. record {
       asks = h.asks.items;
       commits = h.commits;
-      later = map dealing.dealt_in h.later.items;
+      later = map dealt_in h.later.items;
     } };
 }
 

@@ -8,6 +8,7 @@ ghost use Rattle.title_plan.specs.{Asked.{asked_in}, Plans.{script_of}};
 ghost use Rattle.title_dealing.specs.{OfficeScripts.{IsDealtOf, IsOfficeScript}, Turns.{IsAskedBy}};
 
 use crate::dealing::deal;
+use crate::laws::offices_keep_turns;
 use indexmap::IndexSet;
 use std::alloc::{AllocError, Global};
 use title_land::Township;
@@ -31,21 +32,9 @@ pub fn read_office(alloc: Global, examiners: u32, bytes: &[u8]) -> Result<Office
     ensures opens { IfOk result (λ script. MayOpen (length script.parties.keys) script.townships.items) }
     ensures why { IfErr result (λ e. (e ≡ fault.Memory) ⊎ (script_of (schedule.Office examiners) bytes.now ≡ Err e)) }
 {
+    offices_keep_turns();
     let plan = read_script(alloc, Schedule::Office(examiners), bytes)?;
-    let Plan {
-        parties,
-        townships,
-        mut lines,
-        ..
-    } = plan;
-    let steps = lines.len();
-    let scripts = deal(alloc, examiners, &mut lines)?;
-    Ok(OfficeScript {
-        parties,
-        townships,
-        scripts,
-        steps,
-    })
+    Ok(deal_plan(alloc, examiners, plan)?)
 }
 
 /// What a plan asks for, dealt to so many examiners, each step being one of theirs. `Err` is Memory.
@@ -59,12 +48,12 @@ pub fn deal_plan(alloc: Global, examiners: u32, plan: Plan) -> Result<OfficeScri
         mut lines,
         ..
     } = plan;
-    let count = lines.len();
+    let steps = lines.len();
     let scripts = deal(alloc, examiners, &mut lines)?;
     Ok(OfficeScript {
         parties,
         townships,
         scripts,
-        steps: count,
+        steps,
     })
 }

@@ -8,14 +8,17 @@ use Rattle.title_desk.specs.Told.{Books}
 use Rattle.title_plan.specs.{Asked.{Asked}, Townships.{each_once}}
 use Rattle.title_plan.specs.declared.line.Schedule.TheVariants as schedule
 use Rattle.title_standing.specs.StandingLaws.{KeptAreSerial, ReplayedAreCommitted}
+use Rattle.title_spelling.specs.Laws.{DescriptionsStay, LandsHaveCells}
 use Rattle.title_daybook.specs.{Files.{standing_in}, Standing.{Standing}, declared.writing.Stood.{Stood}}
-use Rattle.title_day.specs.DaysOn.{GoesOnFrom, office_text_on}
+use Rattle.title_script.specs.Reports.{setting_of}
+use Rattle.title_day.specs.{DaysOn.{GoesOnFrom, office_text_on}, OfficeRecords.{AreMadeOf, scripts_in}}
 use Rattle.title_lasting.specs.{Days.{declared_in}, Footings.{Continues, HasStood}, Made.{IsAsked, IsUnmade}, Replays.{HasServed}}
+use Rattle.title_lasting.specs.Laws.{CellsSaid.{described_have_cells}, FineBooks.{stands_written}, FineScripts.{IsFine, script_fine}}
 use Rattle.title_lasting.specs.declared.fault.LastingFault.{LastingFault}
 use Rattle.title_lasting.specs.declared.fault.LastingFault.TheVariants as fault
 use Rattle.title_kept_office.specs.declared.fault.KeptOfficeFault.{KeptOfficeFault, TheVariants.{Kept, Worker, Unsettled}}
 use Rattle.title_kept_office.specs.{declared.making.Made.{Made}, Makings.{IsRunOn}}
-use Rattle.title_kept_office.specs.OfficeDays.{CanServe, IsOfficeMade, IsOfficeUnmade, IsOwnTrouble}
+use Rattle.title_kept_office.{specs.OfficeDays.{CanServe, IsOfficeMade, IsOfficeUnmade, IsOwnTrouble}, proofs.DeclaredParties.{made_too}}
 
 -- a list is no longer than one that begins with it
 pub no_fewer : {A : Type 0} (xs ys : List A) → IsPrefix xs ys → length xs ≤ length ys
@@ -50,7 +53,8 @@ module _ (recalled : ReplayedAreCommitted) (kept_serial : KeptAreSerial) (number
   own_unmade (Worker why) source_failed is = can_serve
   own_unmade (Unsettled why) source_failed is = can_serve
 
-  module _ (stood : Stood) (so_much : HasStood stood before) (made : Made) (run : IsRunOn number asked desk stood made) where
+  module _ (cells : LandsHaveCells) (stay : DescriptionsStay) (stood : Stood) (so_much : HasStood stood before) (made : Made)
+      (run : IsRunOn number asked desk stood made) where
     same_records : committed desk.trace ≡ before.records
     same_records = served_records recalled asked.townships before.records desk has
 
@@ -59,6 +63,19 @@ module _ (recalled : ReplayedAreCommitted) (kept_serial : KeptAreSerial) (number
 
     serial : IsSerial depth asked.townships (reverse run.records)
     serial = subst (λ (s : Setting). IsSerial depth s.townships (reverse run.records)) has.setting run.goes_on.serial
+
+    fine : IsFine asked
+    fine =
+        let written = stands_written cells file before stands in
+        script_fine (described_have_cells cells stay) (schedule.Office number) (declared_in before) is_asked.script asked written.names
+        written.texts few_names is_asked.asks
+
+    made_of : AreMadeOf (setting_of asked) (scripts_in asked.lines 1 number) before.records run.tallies run.records
+    made_of =
+        let scripts = scripts_in asked.lines 1 number in
+        made_too asked.names asked.townships most_parties fine.few asked.lines fine.lines number before.records run.tallies run.records
+        (subst (λ (s : Setting). AreMadeOf s scripts before.records run.tallies run.records) has.setting
+        (subst (λ (rs : List Record). AreMadeOf desk.setting scripts rs run.tallies run.records) same_records run.is_made))
 
     continues : Continues before asked run.records
     continues = record {
@@ -91,6 +108,7 @@ module _ (recalled : ReplayedAreCommitted) (kept_serial : KeptAreSerial) (number
         many = run.many;
         tallies_are = run.tallies_are;
         counted = omega (arith, run.counted, ap length same_records);
+        made = made_of;
       };
       report = run.report ∙ ap (λ (n : ℕ). office_text_on asked run.tallies n run.records) so_much.records;
       is_new = run.adds before continues so_much;

@@ -1,3 +1,4 @@
 mod Ended
+mod DeclaredParties
 mod DaysMade
 mod OfficeEnds

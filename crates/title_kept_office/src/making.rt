@@ -18,7 +18,7 @@ use std::alloc::Global;
 use std::sync::Wait;
 use std::thread::Threads;
 use title_day::laws::dealt_scripts_fit;
-use title_day::{Closing, close_office_on, run_day_on};
+use title_day::{Closing, close_office, run_day_on};
 use title_daybook::{Standing, Stood};
 use title_dealing::laws::offices_keep_turns_onto;
 use title_dealing::{OfficeScript, deal_plan};
@@ -28,6 +28,7 @@ use title_lasting::{Footing, day_block, lay_footing};
 use title_lock::NodeLocks;
 use title_plan::laws::scripts_begin;
 use title_plan::{Plan, Schedule};
+use title_spelling::laws::{descriptions_stay, lands_have_cells};
 use title_standing::laws::{kept_records_are_serial, replayed_records_are_committed};
 use title_tree_store::TreeStore;
 
@@ -80,7 +81,7 @@ fn run_on<T: Threads + Wait + Sync>(
     )?;
     let records = day.records.as_slice();
     let block = day_block(alloc, stood, listed, &parties, records, kept)?;
-    let closing = close_office_on(
+    let closing = close_office(
         alloc,
         parties,
         listed,
@@ -116,6 +117,8 @@ pub(crate) fn make<T: Threads + Wait + Sync, R: Source>(
     offices_keep_turns_onto();
     replayed_records_are_committed();
     kept_records_are_serial();
+    lands_have_cells();
+    descriptions_stay();
     let begun = lay_footing(alloc, Schedule::Office(examiners), stands, desk, source)?;
     let Footing {
         plan,

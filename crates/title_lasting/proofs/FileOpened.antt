@@ -1,14 +1,11 @@
 -- What the opening of a plant's file finds, and how it fails.
-use Rattle.std.proofs.Common.{◌≡◌, ◌∙◌, ◌≤◌, ℕ, Bool, true, List, [], ◌∷◌, drop, length, Ok, Err}
+use Rattle.std.proofs.Common.{◌≡◌, ◌∙◌, ℕ, Bool, true, List, [], ◌∷◌, drop, length, Ok, Err}
 use Rattle.std.{proofs.{Common.{refl, sym, ap, subst, arith, inl, inr}, lemmas.List.{length-map}}, specs.List.{AllByRecursion}}
-use Rattle.title_land.specs.declared.survey.Township.{Township}
-use Rattle.title_chain.specs.{declared.record.Record.{Record}, Alone.{most_parties}}
-use Rattle.title_trace.specs.Due.{MayOpen, most_townships}
+use Rattle.title_chain.specs.declared.record.Record.{Record}
 use Rattle.title_disk.specs.{Crashes.{Elapses, LeavesOnly, Only}, Laws.Moments.{goes_on, joined, started}}
 use Rattle.title_journal.specs.{declared.fault.JournalFault.{JournalFault}, Blocks.{blocks_in, front}}
 use Rattle.title_journal.specs.Rest.{StandsAlike, tail_of, texts_of}
 use Rattle.title_journal.specs.declared.fault.JournalFault.TheVariants as journal
-use Rattle.title_plan.specs.{Townships.{each_once}, Laws.Declarations.{once_said}}
 use Rattle.title_standing.specs.Records.{posted_step}
 use Rattle.title_daybook.specs.{declared.fault.PlantFault.{PlantFault}, AddedLaws.{IsKept}, Books.{standing_of}, Standing.{Standing}}
 use Rattle.title_daybook.specs.Files.{row_of, standing_after, standing_in}
@@ -34,11 +31,6 @@ unfound file disk_failed (plant.Row n) row = inl (row n refl)
 unfound file disk_failed plant.Memory row = tt
 
 -- ---- replay
-
--- a desk can be opened with the townships of what stands
-pub may_open : (townships : List Township) → length townships ≤ most_townships → each_once townships ≡ true
-    → MayOpen most_parties townships
-may_open townships few once = (omega arith, omega arith, few, once_said townships once)
 
 short_of : (names : List (List ℕ)) (records : List Record) → AllByRecursion (IsKept names) records → AreShort records
 short_of names [] all = tt

@@ -73,7 +73,7 @@ pub count_none : (held : ℕ → Option Mode) (m : Mode) → ((f : ℕ) → held
 count_none held m none = ([], tt, (λ f. from_test false (held f) m (sym (ap (λ (o : Option Mode). has_mode o m) (none f)))), refl)
 
 -- where each holds the same, the count is the same
-count_same : (held now : ℕ → Option Mode) (m : Mode) (k : ℕ) → ((f : ℕ) → now f ≡ held f) → IsCount held m k → IsCount now m k
+pub count_same : (held now : ℕ → Option Mode) (m : Mode) (k : ℕ) → ((f : ℕ) → now f ≡ held f) → IsCount held m k → IsCount now m k
 count_same held now m k same (es, once, are, long) =
     (es, once, (λ f. ((λ h. same f ∙ (are f).0 h), (λ h. (are f).1 (sym (same f) ∙ h)))), long)
 

@@ -1,21 +1,22 @@
 //! How many examiners hold a node in each mode.
 
 ghost use Rattle.std.specs.Prelude.{◌≡◌, ◌+◌, ◌<◌, ◌≤◌, ◌^◌, Some};
-ghost use Rattle.title_lock.specs.{declared.modes.Mode.{Mode}, Holders.{count_in, own_part}};
+ghost use Rattle.title_lock.specs.{declared.modes.Mode.{Mode}, Counts.{in_order}, Holders.{count_in, own_part}};
 
 use crate::modes::Mode;
 
 /// A number for each mode.
-#[derive(Clone, Copy, Debug, PartialEq, Eq, Drop)]
+#[derive(Clone, Copy, Drop)]
 pub(crate) struct Counts {
-    pub(crate) is: u64,
-    pub(crate) ix: u64,
-    pub(crate) s: u64,
-    pub(crate) six: u64,
-    pub(crate) x: u64,
+    is: u64,
+    ix: u64,
+    s: u64,
+    six: u64,
+    x: u64,
 }
 
 impl Counts {
+    /// Where nobody has any.
     pub(crate) const NONE: Counts = Counts {
         is: 0,
         ix: 0,
@@ -23,6 +24,20 @@ impl Counts {
         six: 0,
         x: 0,
     };
+
+    /// Where one examiner has this, and nobody else has any.
+    pub(crate) fn of_one(held: Option<Mode>) -> Counts
+        ensures one { (m : Mode) → count_in result m ≡ own_part held m }
+    {
+        Counts::NONE.with(held)
+    }
+
+    /// The numbers in the order IS, IX, S, SIX, X.
+    pub(crate) fn in_order(self) -> [u64; 5]
+        ensures order { (m : Mode) → in_order result m ≡ count_in self m }
+    {
+        [self.is, self.ix, self.s, self.six, self.x]
+    }
 
     /// How many hold it in a mode.
     pub(crate) fn of(self, mode: Mode) -> u64

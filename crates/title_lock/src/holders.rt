@@ -1,10 +1,10 @@
 //! The holders of one node.
 
 ghost use Rattle.std.specs.Prelude.{◌≡◌, ℕ, true, not, ◌==◌, ◌&&◌, ◌||◌, ◌≢◌, false, if◌then◌else◌, Some, None, OnOk, IfOk, IfSome, IfNone};
-ghost use Rattle.std.specs.Prelude.{is_some, slice_index};
-ghost use Rattle.title_lock.specs.{declared.modes.Mode.{Mode, TheVariants.{Is, Ix, S, Six, X}}, Modes.{bound, is_enough}};
-ghost use Rattle.title_lock.specs.{Overlaps.{IsLeast}, Counts.{IsCount}};
-ghost use Rattle.title_lock.specs.Holders.{Modes, holder_mode, has_room, is_free, clashes, own_part, leaves, is_clear, AreCounted};
+ghost use Rattle.std.specs.Prelude.{is_some};
+ghost use Rattle.title_lock.specs.{declared.modes.Mode.{Mode}, Modes.{bound, is_enough}, Overlaps.{IsLeast}, Counts.{IsCount}};
+ghost use Rattle.title_lock.specs.Holders.{Modes, holder_mode, has_room, is_free, clashes, own_part, count_in, leaves, is_clear};
+ghost use Rattle.title_lock.specs.Holders.{AreCounted};
 
 use crate::counts::Counts;
 use crate::modes::{Mode, bound, compat, is_enough};
@@ -28,8 +28,8 @@ impl Model for Holders {
     ghost invariant = { λ h. AreCounted h.counts h.slots };
 }
 
-/// How many of those with a mode one examiner is, by what it holds.
-pub(crate) fn own_part(held: Option<Mode>, mode: Mode) -> u64
+// How many of those with a mode one examiner is, by what it holds.
+fn own_part(held: Option<Mode>, mode: Mode) -> u64
     ensures own { result ≡ own_part held mode }
 {
     match (held, mode) {
@@ -79,21 +79,11 @@ impl Holders {
         self.slots.mode(examiner)
     }
 
-    /// How many examiners have each mode, from IS to X.
-    pub(crate) fn numbers(&self) -> [u64; 5]
-        ensures is { IsCount (holder_mode self.now) Is (slice_index result 0) }
-        ensures ix { IsCount (holder_mode self.now) Ix (slice_index result 1) }
-        ensures s { IsCount (holder_mode self.now) S (slice_index result 2) }
-        ensures six { IsCount (holder_mode self.now) Six (slice_index result 3) }
-        ensures x { IsCount (holder_mode self.now) X (slice_index result 4) }
+    /// How many examiners have each mode.
+    pub(crate) fn counts(&self) -> Counts
+        ensures counts { (m : Mode) → IsCount (holder_mode self.now) m (count_in result m) }
     {
-        [
-            self.counts.is,
-            self.counts.ix,
-            self.counts.s,
-            self.counts.six,
-            self.counts.x,
-        ]
+        self.counts
     }
 
     /// The least other examiner whose mode doesn't stand beside the one wanted. `None` in place of that where the examiner holds enough:

@@ -1,15 +1,15 @@
 //! Locks that are listed while one examiner alone has any, or few are out, and else stand by node.
 
-ghost use Rattle.std.specs.Prelude.{◌≡◌, [], reverse, OnOk, OnErr, IfOk, slice_index};
+ghost use Rattle.std.specs.Prelude.{◌≡◌, [], reverse, OnOk, OnErr, IfOk};
 ghost use Rattle.title_land.specs.Depth.{depth};
-ghost use Rattle.title_lock.specs.{declared.modes.Mode.TheVariants.{Is, Ix, S, Six, X}, Books.{is_nothing}, Counts.{IsCount}};
-ghost use Rattle.title_lock.specs.{Asking.{mode_at, AllGranted, AreSized}, Holders.{own_part}, Standing.{StandFree}};
+ghost use Rattle.title_lock.specs.{declared.modes.Mode.{Mode}, Books.{is_nothing}, Counts.{IsCount, in_order}, Holders.{count_in}};
+ghost use Rattle.title_lock.specs.{Asking.{mode_at, AllGranted, AreSized}, Standing.{StandFree}};
 ghost use Rattle.title_lock.specs.Locks.{Locks, shown, AreInOne};
 
+use crate::counts::Counts;
 use crate::guards::{Access, Guards, LockFault};
-use crate::holders::own_part;
 use crate::modes::Mode;
-use crate::row_locks::{Row, RowLocks, way};
+use crate::row_locks::{Row, RowLocks, counted, way};
 use crate::spread_locks::SpreadLocks;
 use std::alloc::{AllocError, Global};
 use std::marker::Model;
@@ -34,9 +34,9 @@ pub(crate) enum Layout {
 }
 
 /// Locks by node. While one examiner alone has accesses they are only listed, and nobody is in its way. They are listed as well
-/// while several have few, and each step goes through the list. They are spread over the nodes when more come, and stay so until
-/// nobody has any: then each node in use has its holders and how many have each mode; the counts decide, and the holders tell
-/// the least examiner in the way.
+/// while several have few, and each step goes through the list. They are spread over the nodes when more come, or one is refused that
+/// was held to many of them, and stay so until nobody has any: then each node in use has its holders and how many have each mode;
+/// the counts decide, and the holders tell the least examiner in the way.
 #[derive(Drop)]
 pub struct NodeLocks {
     alloc: Global,
@@ -83,23 +83,6 @@ fn spread_out(
     Ok(())
 }
 
-// How many examiners have each mode, from IS to X, where one has this and the others have none.
-fn counts_of_one(held: Option<Mode>) -> [u64; 5]
-    ensures is { slice_index result 0 ≡ own_part held Is }
-    ensures ix { slice_index result 1 ≡ own_part held Ix }
-    ensures s { slice_index result 2 ≡ own_part held S }
-    ensures six { slice_index result 3 ≡ own_part held Six }
-    ensures x { slice_index result 4 ≡ own_part held X }
-{
-    [
-        own_part(held, Mode::Is),
-        own_part(held, Mode::Ix),
-        own_part(held, Mode::S),
-        own_part(held, Mode::Six),
-        own_part(held, Mode::X),
-    ]
-}
-
 impl NodeLocks {
     /// The law on modes holds of this table: its entries stand without overlap, each was granted by modes when it came, and
     /// their sets are as large as the grid. It does nothing: its type says so, and a proof may cite it.
@@ -114,19 +97,22 @@ impl NodeLocks {
         }
     }
 
-    /// How many examiners have each mode at a node, in the order IS, IX, S, SIX, X. Takes no memory.
-    pub fn counts(&self, node: &Node) -> [u64; 5]
-        ensures is { IsCount (λ e. mode_at depth self.now.entries e node.now) Is (slice_index result 0) }
-        ensures ix { IsCount (λ e. mode_at depth self.now.entries e node.now) Ix (slice_index result 1) }
-        ensures s { IsCount (λ e. mode_at depth self.now.entries e node.now) S (slice_index result 2) }
-        ensures six { IsCount (λ e. mode_at depth self.now.entries e node.now) Six (slice_index result 3) }
-        ensures x { IsCount (λ e. mode_at depth self.now.entries e node.now) X (slice_index result 4) }
+    // How many examiners have each mode at a node.
+    fn counts_at(&self, node: &Node) -> Counts
+        ensures counts { (m : Mode) → IsCount (λ e. mode_at depth self.now.entries e node.now) m (count_in result m) }
     {
         match self.layout {
-            Layout::Alone(owner) => counts_of_one(self.listed.mode(owner, node)),
-            Layout::Listed => self.listed.counts(node),
+            Layout::Alone(owner) => Counts::of_one(self.listed.mode(owner, node)),
+            Layout::Listed => counted(self.listed.rows(), node),
             Layout::Spread => self.spread.counts(node),
         }
+    }
+
+    /// How many examiners have each mode at a node, in the order IS, IX, S, SIX, X. Takes no memory.
+    pub fn counts(&self, node: &Node) -> [u64; 5]
+        ensures counts { (m : Mode) → IsCount (λ e. mode_at depth self.now.entries e node.now) m (in_order result m) }
+    {
+        self.counts_at(node).in_order()
     }
 
     // Whether nobody has an entry. What is prepared by node is forgotten.

@@ -1,17 +1,19 @@
 //! Locks as a plain list of entries.
 
 ghost use Rattle.std.specs.Prelude.{◌≡◌, ◌<◌, ◌^◌, ◌&&◌, ◌==◌, if◌then◌else◌, Some, None, List, reverse, filter, not, OnOk};
-ghost use Rattle.std.specs.Prelude.{ℕ, true, is_some, slice_index, IfErr};
-ghost use Rattle.title_land.specs.{Depth.{depth}, Nodes.{is_above}, Lands.{cover_of}};
+ghost use Rattle.std.specs.Prelude.{ℕ, true, is_some, IfErr};
+ghost use Rattle.title_land.specs.{Depth.{depth}, Lands.{cover_of}};
 ghost use Rattle.title_lock.specs.Standing.{StandFree};
 ghost use Rattle.title_lock.specs.{declared.guards.Entry.{Entry}, Overlaps.{is_post, overlap, Stands, IsLeast, RefusedBy}};
 ghost use Rattle.title_lock.specs.{Asking.{asked_for, asked, mode_at, AllGranted, AreSized}, Counts.{IsCount}, Holders.{count_in}};
-ghost use Rattle.title_lock.specs.{declared.modes.Mode.{Mode, TheVariants.{Is, Ix, S, Six, X}}, Homes.{home_number, is_elsewhere}};
+ghost use Rattle.title_lock.specs.{declared.modes.Mode.{Mode}, Homes.{home_number, is_elsewhere}};
 
 use crate::counts::Counts;
 use crate::guards::{Access, Entry, Guards, LockFault};
 use crate::least::least;
 use crate::modes::{Mode, bound};
+use crate::spots::Spot;
+use crate::walks::{above_mode, own_mode};
 use std::alloc::{AllocError, Global};
 use std::marker::Model;
 use title_land::{Node, Tract};
@@ -101,19 +103,19 @@ fn is_post(access: Access) -> bool
 }
 
 // Whether an access overlaps an entry.
-fn overlaps(row: &Entry, tract: &Tract, access: Access) -> bool
-    ensures overlaps { result ≡ overlap tract.now (is_post access) row.now.tract (is_post row.now.access) }
+fn overlaps(entry: &Entry, tract: &Tract, access: Access) -> bool
+    ensures overlaps { result ≡ overlap tract.now (is_post access) entry.now.tract (is_post entry.now.access) }
 {
-    (is_post(access) || is_post(row.access)) && tract.meets(&row.tract)
+    (is_post(access) || is_post(entry.access)) && tract.meets(&entry.tract)
 }
 
 // The examiner of an entry that is in the way.
-fn way_of(row: &Entry, examiner: u32, tract: &Tract, access: Access) -> Option<u32>
-    ensures way { IsLeast (λ f. f == row.now.examiner && overlap tract.now (is_post access) row.now.tract (is_post row.now.access))
+fn way_of(entry: &Entry, examiner: u32, tract: &Tract, access: Access) -> Option<u32>
+    ensures way { IsLeast (λ f. f == entry.now.examiner && overlap tract.now (is_post access) entry.now.tract (is_post entry.now.access))
         examiner result }
 {
-    if row.examiner != examiner && overlaps(row, tract, access) {
-        Some(row.examiner)
+    if entry.examiner != examiner && overlaps(entry, tract, access) {
+        Some(entry.examiner)
     } else {
         None
     }
@@ -140,25 +142,14 @@ pub(crate) fn way(
     (way, met)
 }
 
-// Whether a node lies above another.
-fn is_above(node: &Node, other: &Node) -> bool
-    ensures above { result ≡ is_above node.now other.now }
-{
-    match other.parent() {
-        None => false,
-        Some(parent) => node.is(&parent) || is_above(node, &parent),
-    }
-}
-
 // What an access asks for at a node, for one node of its cover.
 fn asked_for(access: Access, member: &Node, node: &Node) -> Option<Mode>
     ensures asked { result ≡ asked_for (is_post access) member.now node.now }
 {
-    let is_post = is_post(access);
     if node.is(member) {
-        Some(if is_post { Mode::X } else { Mode::S })
-    } else if is_above(node, member) {
-        Some(if is_post { Mode::Ix } else { Mode::Is })
+        Some(own_mode(access))
+    } else if Spot::of(node).is_above(&Spot::of(member)) {
+        Some(above_mode(access))
     } else {
         None
     }
@@ -175,12 +166,12 @@ fn asked(access: Access, cover: &[Node], node: &Node) -> Option<Mode>
 }
 
 // What an entry gives an examiner at a node.
-fn mode_by(row: &Entry, examiner: u32, node: &Node) -> Option<Mode>
-    ensures mode { result ≡ (if examiner == row.now.examiner
-        then asked (is_post row.now.access) (cover_of depth row.now.tract) node.now else None) }
+fn mode_by(entry: &Entry, examiner: u32, node: &Node) -> Option<Mode>
+    ensures mode { result ≡ (if examiner == entry.now.examiner
+        then asked (is_post entry.now.access) (cover_of depth entry.now.tract) node.now else None) }
 {
-    if examiner == row.examiner {
-        asked(row.access, row.tract.cover(), node)
+    if examiner == entry.examiner {
+        asked(entry.access, entry.tract.cover(), node)
     } else {
         None
     }
@@ -197,8 +188,8 @@ fn mode_in(rows: &[Row], examiner: u32, node: &Node) -> Option<Mode>
     mode
 }
 
-// How many examiners have each mode at a node.
-fn counted(rows: &[Row], node: &Node) -> Counts
+/// How many examiners have each mode at a node.
+pub(crate) fn counted(rows: &[Row], node: &Node) -> Counts
     ensures counted { (m : Mode) → IsCount (λ e. mode_at depth (reverse rows.now) e node.now) m (count_in result m) }
     ensures few { (e : ℕ) → is_some (mode_at depth (reverse rows.now) e node.now) ≡ true → e < 2 ^ 32 }
 {
@@ -234,18 +225,6 @@ impl RowLocks {
         ensures rows { reverse result.now ≡ self.now.entries }
     {
         self.rows.as_slice()
-    }
-
-    /// How many examiners have each mode at a node, from IS to X. Takes no memory.
-    pub(crate) fn counts(&self, node: &Node) -> [u64; 5]
-        ensures is { IsCount (λ e. mode_at depth self.now.entries e node.now) Is (slice_index result 0) }
-        ensures ix { IsCount (λ e. mode_at depth self.now.entries e node.now) Ix (slice_index result 1) }
-        ensures s { IsCount (λ e. mode_at depth self.now.entries e node.now) S (slice_index result 2) }
-        ensures six { IsCount (λ e. mode_at depth self.now.entries e node.now) Six (slice_index result 3) }
-        ensures x { IsCount (λ e. mode_at depth self.now.entries e node.now) X (slice_index result 4) }
-    {
-        let counts = counted(&self.rows, node);
-        [counts.is, counts.ix, counts.s, counts.six, counts.x]
     }
 
     // Makes room for an access that nobody is in the way of, and adds nothing. An error is for memory.
@@ -316,8 +295,8 @@ impl Guards for RowLocks {
     }
 
     fn grant(&mut self, _examiner: u32, _tract: &Tract, _access: Access) {
-        if let Some(row) = self.prepared.take() {
-            self.rows.push_reserved(Row::of(row));
+        if let Some(entry) = self.prepared.take() {
+            self.rows.push_reserved(Row::of(entry));
         }
     }
 

@@ -1,14 +1,15 @@
 //! Locks as a table of the holders of each node.
 
-ghost use Rattle.std.specs.Prelude.{◌≡◌, ℕ, true, List, None, ◌∷◌, ◌==◌, ◌&&◌, if◌then◌else◌, OnOk, OnErr, is_some, not, slice_index};
+ghost use Rattle.std.specs.Prelude.{◌≡◌, ℕ, true, List, None, ◌∷◌, ◌==◌, ◌&&◌, if◌then◌else◌, OnOk, OnErr, is_some, not};
 ghost use Rattle.std.specs.List.{list_any};
 ghost use Rattle.title_land.specs.{Depth.{depth}, declared.node.Node.{Node}};
-ghost use Rattle.title_lock.specs.{declared.{guards.Entry.{Entry}, modes.Mode.TheVariants.{Is, Ix, S, Six, X}}, Overlaps.{without}};
-ghost use Rattle.title_lock.specs.{Books.{is_nothing}, Asking.{mode_at, AllGranted, AreSized}, Counts.{IsCount}, Standing.{StandFree}};
+ghost use Rattle.title_lock.specs.{declared.{guards.Entry.{Entry}, modes.Mode.{Mode}}, Overlaps.{without}};
+ghost use Rattle.title_lock.specs.{Books.{is_nothing}, Asking.{mode_at, AllGranted, AreSized}, Counts.{IsCount}, Holders.{count_in}};
 ghost use Rattle.title_lock.specs.Tables.{on_all, table_mode, is_asked, is_asked_by, HasRoom, IsRoomy, IdleMore, NoMoreIdle, AllUsed};
-ghost use Rattle.title_lock.specs.Locks.{Locks, granted, waiting, AreLocks};
+ghost use Rattle.title_lock.specs.{Standing.{StandFree}, Locks.{Locks, granted, waiting, AreLocks}};
 
 use crate::book::Book;
+use crate::counts::Counts;
 use crate::guards::{Access, Entry, Guards, LockFault};
 use crate::modes::Mode;
 use crate::table::Table;
@@ -94,13 +95,9 @@ impl SpreadLocks {
         let _ = &self.table;
     }
 
-    /// How many examiners have each mode at a node, in the order IS, IX, S, SIX, X. Takes no memory.
-    pub(crate) fn counts(&self, node: &Node) -> [u64; 5]
-        ensures is { IsCount (λ e. mode_at depth self.now.entries e node.now) Is (slice_index result 0) }
-        ensures ix { IsCount (λ e. mode_at depth self.now.entries e node.now) Ix (slice_index result 1) }
-        ensures s { IsCount (λ e. mode_at depth self.now.entries e node.now) S (slice_index result 2) }
-        ensures six { IsCount (λ e. mode_at depth self.now.entries e node.now) Six (slice_index result 3) }
-        ensures x { IsCount (λ e. mode_at depth self.now.entries e node.now) X (slice_index result 4) }
+    /// How many examiners have each mode at a node. Takes no memory.
+    pub(crate) fn counts(&self, node: &Node) -> Counts
+        ensures counts { (m : Mode) → IsCount (λ e. mode_at depth self.now.entries e node.now) m (count_in result m) }
     {
         self.table.counts(node)
     }

@@ -1,14 +1,15 @@
 //! A table of locks: the holders of each node.
 
 ghost use Rattle.std.specs.Prelude.{◌≡◌, ◌≢◌, ℕ, true, false, None, Some, ◌&&◌, ◌==◌, if◌then◌else◌, OnOk, IfOk, IfSome, IfNone};
-ghost use Rattle.std.specs.{Prelude.{is_some, slice_index}, List.{list_any}};
+ghost use Rattle.std.specs.{Prelude.{is_some}, List.{list_any}};
 ghost use Rattle.title_land.specs.{declared.node.Node.{Node}, Nodes.{same_node}};
 ghost use Rattle.title_lock.specs.{Modes.{allows, bound, is_enough}, Overlaps.{is_post, IsLeast}};
-ghost use Rattle.title_lock.specs.{declared.modes.Mode.TheVariants.{Is, Ix, S, Six, X}, Counts.{IsCount}, Asking.{asked}};
-ghost use Rattle.title_lock.specs.{Holders.{clashes}, Walks.{walk, clashes_in}};
+ghost use Rattle.title_lock.specs.{declared.modes.Mode.{Mode}, Counts.{IsCount}, Asking.{asked}};
+ghost use Rattle.title_lock.specs.{Holders.{clashes, count_in}, Walks.{walk, clashes_in}};
 ghost use Rattle.title_lock.specs.Tables.{on_all, table_mode, table_room, KeepsRoom, HasRoom, IsRooted, IsRoomy, IsGone};
 ghost use Rattle.title_lock.specs.Tables.{is_asked, is_idle, IdleMore, IdleLess, NoMoreIdle, AllUsed};
 
+use crate::counts::Counts;
 use crate::guards::Access;
 use crate::holders::Holders;
 use crate::least::least;
@@ -50,17 +51,13 @@ impl Table {
         }
     }
 
-    /// How many examiners have each mode at a node, from IS to X.
-    pub(crate) fn counts(&self, node: &Node) -> [u64; 5]
-        ensures is { IsCount (λ e. table_mode (on_all self.now) e node.now) Is (slice_index result 0) }
-        ensures ix { IsCount (λ e. table_mode (on_all self.now) e node.now) Ix (slice_index result 1) }
-        ensures s { IsCount (λ e. table_mode (on_all self.now) e node.now) S (slice_index result 2) }
-        ensures six { IsCount (λ e. table_mode (on_all self.now) e node.now) Six (slice_index result 3) }
-        ensures x { IsCount (λ e. table_mode (on_all self.now) e node.now) X (slice_index result 4) }
+    /// How many examiners have each mode at a node.
+    pub(crate) fn counts(&self, node: &Node) -> Counts
+        ensures counts { (m : Mode) → IsCount (λ e. table_mode (on_all self.now) e node.now) m (count_in result m) }
     {
         match self.holders.get(&node.number()) {
-            Some(holders) => holders.numbers(),
-            None => [0; 5],
+            Some(holders) => holders.counts(),
+            None => Counts::NONE,
         }
     }
 

@@ -31,7 +31,7 @@ pub(crate) struct Walk<'a> {
     climb: Option<Climb>,
 }
 
-/// What an access asks of a node of the cover.
+/// The mode that an access asks of a node of the cover.
 pub(crate) fn own_mode(access: Access) -> Mode
     ensures own { result ≡ own_mode (is_post access) }
 {
@@ -41,8 +41,8 @@ pub(crate) fn own_mode(access: Access) -> Mode
     }
 }
 
-// What an access asks of each node above.
-fn above_mode(access: Access) -> Mode
+/// The mode that an access asks of each node above.
+pub(crate) fn above_mode(access: Access) -> Mode
     ensures above { result ≡ above_mode (is_post access) }
 {
     match access {

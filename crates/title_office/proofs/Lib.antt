@@ -4,6 +4,8 @@ pub mod Slips
 pub mod Settling
 pub mod Lists
 pub mod Runs
+pub mod Served
+pub mod Outcomes
 pub mod Ends
 pub mod Crossing
 pub mod Faults

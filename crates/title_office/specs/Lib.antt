@@ -1,3 +1,4 @@
 pub mod Offices
 pub mod Workers
+pub mod Transactions
 pub mod Turns

@@ -11,8 +11,9 @@ mod tally;
 mod worker;
 
 ghost use Rattle.std.specs.Prelude.{◌≡◌, All, IfErr, IfOk, IfSome, IsSome, None, map};
+ghost use Rattle.title_turns.specs.Dealt.{told_by};
 ghost use Rattle.title_office.specs.declared.fault.Fault.TheVariants as fault;
-ghost use Rattle.title_office.specs.{Turns.{EndsWorker}, Workers.{AreCounted, examiners_of, seat_examiners}};
+ghost use Rattle.title_office.specs.{Transactions.{AreRunsOf}, Turns.{EndsWorker}, Workers.{AreCounted, examiners_of, seat_examiners}};
 
 use crate::fault::Fault;
 use crate::gate::Gate;
@@ -62,6 +63,8 @@ pub fn work<B: Room + Send + Sync, R: Threads + Wait + Sync, G: Gate + Sync>(
       given_up = w.given_up;
       fault = w.fault;
     }) worked.items)) }
+    ensures runs { IfOk result (λ worked.
+        AreRunsOf B.setting (map told_by scripts.items) (map (λ w. w.outcomes.items) worked.items)) }
     ensures seats { IfOk result (λ worked. All (λ w. IfSome w.seat (λ s. s.examiner ≡ w.examiner)) worked.items) }
     ensures seated { IfOk result (λ worked. All (λ w. w.fault ≡ None → IsSome w.seat) worked.items) }
     ensures faults { IfOk result (λ worked. All (λ w. IfSome w.fault EndsWorker) worked.items) }

@@ -5,6 +5,7 @@ pub mod Fields
 pub mod Rows
 pub mod Asked
 pub mod Plans
+pub mod Requests
 pub mod Onto
 pub mod Faults
 pub mod Readers

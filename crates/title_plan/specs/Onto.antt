@@ -3,10 +3,9 @@ use Rattle.std.specs.Prelude.{◌≡◌, ◌≤◌, ℕ, ◌+◌, ◌==◌, ◌&
 use Rattle.std.specs.{Prelude.{Option, Some, None, Result, Ok, Err}, List.{list_any}, Str.{bytes_eq}, String.{string_bytes}}
 use mathlib.Core.List.{IsPrefix}
 use Rattle.title_land.specs.{declared.{survey.Township.{Township}, tract.Land.{Land}}, Survey.{same_township}}
-use Rattle.title_land.specs.declared.tract.Land.TheVariants as land
 use Rattle.title_aliquot.specs.declared.fault.DescFault.{DescFault}
 use Rattle.title_plan.specs.declared.{fault.ScriptFault.{ScriptFault}, line.Schedule.{Schedule}, onto.{Declared.{Declared}, Stood.{Stood}}}
-use Rattle.title_plan.specs.{declared.row.Row.{Row}, Asked.{Asked}, Lands.{land_in}}
+use Rattle.title_plan.specs.{declared.row.Row.{Row}, Asked.{Asked}, Lands.{land_in, said_township}}
 use Rattle.title_plan.specs.Plans.{after_step_row, after_township, going_on, rows_in, script_of, understood, with_party}
 use Rattle.title_plan.specs.declared.fault.ScriptFault.TheVariants as fault
 use Rattle.title_plan.specs.declared.row.Row.TheVariants as row
@@ -39,10 +38,13 @@ asked_on before = record { townships = before.townships; names = before.names; l
 
 -- ---- declarations
 
+abbrev pub is_one_of : List Township → Option Township → Bool
+is_one_of townships None = false
+is_one_of townships (Some t) = list_any (λ other. same_township other t) townships
+
 -- what a text describes is one of the townships that stand
 abbrev pub is_township_of : Before → Result Land DescFault → Bool
-is_township_of before (Ok (land.Township t)) = list_any (λ other. same_township other t) before.townships
-is_township_of before _ = false
+is_township_of before said = is_one_of before.townships (said_township said)
 
 -- the n-th row declares what a text describes: a township that stands is passed over before the first step
 abbrev pub township_onto : Before → ℕ → Asked → Result Land DescFault → Result Asked ScriptFault

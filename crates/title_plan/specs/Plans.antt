@@ -1,11 +1,11 @@
 -- What a script asks for, or the first fault among its rows.
-use Rattle.std.specs.Prelude.{ℕ, ◌+◌, ◌==◌, ◌&&◌, ◌||◌, not, cond, Bool, true, false, List, [], ◌∷◌, ◌++◌, filter, length, nat_le, nat_lt}
+use Rattle.std.specs.Prelude.{ℕ, ◌+◌, ◌==◌, ◌&&◌, not, cond, Bool, true, false, List, [], ◌∷◌, ◌++◌, filter, length, nat_le, nat_lt}
 use Rattle.std.specs.{Prelude.{Option, Some, None, Result, Ok, Err}, List.{list_all, list_any, position}, Str.{bytes_eq, is_utf8}}
 use Rattle.csv.specs.Reading.{default_config, records, strip_bom}
-use Rattle.title_land.specs.{declared.{survey.Township.{Township}, tract.Land.{Land}}, Survey.{same_township}}
-use Rattle.title_land.specs.declared.tract.Land.TheVariants as land
+use Rattle.title_land.specs.declared.{survey.Township.{Township}, tract.Land.{Land}}
 use Rattle.title_aliquot.specs.declared.fault.DescFault.{DescFault}
-use Rattle.title_plan.specs.{Lands.{land_in}, declared.{fault.ScriptFault.{ScriptFault}, line.{Line.{Line}, Schedule.{Schedule}}}}
+use Rattle.title_plan.specs.{Lands.{land_in, said_township}, Townships.{is_refused}, declared.fault.ScriptFault.{ScriptFault}}
+use Rattle.title_plan.specs.declared.line.{Line.{Line}, Schedule.{Schedule}}
 use Rattle.title_plan.specs.{declared.row.{Act.{Act}, Row.{Row}}, Asked.{Asked, nothing_asked}, Fields.{given}, Limits.{most_rows}}
 use Rattle.title_plan.specs.Rows.{row_in}
 use Rattle.title_instrument.specs.{declared.instrument.Instrument.{Instrument}, Parties.{between, grantor_of, grantee_of}}
@@ -17,22 +17,25 @@ use Rattle.title_plan.specs.declared.line.Line.TheVariants as line
 use Rattle.title_plan.specs.declared.line.Schedule.TheVariants as schedule
 use Rattle.title_plan.specs.declared.row.Act.TheVariants as act
 use Rattle.title_plan.specs.declared.row.Row.TheVariants as row
-use Rattle.title_trace.specs.Due.{most_townships}
 
 -- ---- declarations
 
 -- the n-th row declares a township: at fault where it is declared already, where as many are as may be, or after the first step
 abbrev pub with_township : ℕ → Asked → Township → Result Asked ScriptFault
 with_township n asked t =
-    cond (nat_le most_townships (length asked.townships) || list_any (λ other. same_township other t) asked.townships) (Err (fault.Row n))
+    cond (is_refused asked.townships t) (Err (fault.Row n))
     (cond (length asked.lines == 0)
     (Ok (record { townships = asked.townships ++ t ∷ []; names = asked.names; lines = asked.lines; inside = asked.inside }))
     (Err (fault.Order n)))
 
+-- the n-th row declares a township, if there is one
+abbrev pub with_said : ℕ → Asked → Option Township → Result Asked ScriptFault
+with_said n asked None = Err (fault.Row n)
+with_said n asked (Some t) = with_township n asked t
+
 -- the n-th row declares what a text describes: at fault where that is no whole township
 abbrev pub after_township : ℕ → Asked → Result Land DescFault → Result Asked ScriptFault
-after_township n asked (Ok (land.Township t)) = with_township n asked t
-after_township n asked _ = Err (fault.Row n)
+after_township n asked said = with_said n asked (said_township said)
 
 -- the n-th row declares a party: at fault where as many have a number as may have one, after the first step, or where the
 -- name is there already

@@ -6,12 +6,10 @@ ghost use Rattle.title_chain.specs.Alone.{most_parties};
 ghost use Rattle.title_trace.specs.Due.{most_townships};
 ghost use Rattle.title_plan.specs.Townships.{each_once};
 
+use crate::declaring::FIRST_PARTY;
 use indexmap::IndexSet;
 use std::alloc::{AllocError, Global};
 use title_land::Township;
-
-/// The name of party 0.
-const FIRST_PARTY: &str = "UNITED STATES";
 
 /// What stands before a script: townships, each once, and parties, who have their numbers as indices. Party 0 is UNITED STATES:
 /// the one that no script may declare.

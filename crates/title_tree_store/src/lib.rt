@@ -1,5 +1,5 @@
-//! A store of a plant in which holdings are inherited down trees of quarters, so that a deed of a township costs as much
-//! as one of a cell.
+//! A store of a plant in which holdings are inherited down trees of quarters: of each estate a township has one tree for all its
+//! sections, or one for each, so that a deed of a whole section changes one leaf of an estate and not 256 cells.
 #![tactic(auto)]
 
 mod forest;

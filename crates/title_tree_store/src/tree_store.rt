@@ -1,4 +1,4 @@
-//! The plant as trees of quarters, one for each estate.
+//! The plant as trees of quarters: for each estate, of each township one or one for each section.
 
 ghost use Rattle.std.specs.Prelude.{◌≡◌, ◌≢◌, true, None, Some, length};
 ghost use Rattle.title_land.specs.{Depth.{depth}, Lands.{is_in_plant}};
@@ -25,8 +25,8 @@ pub struct Image {
     number: u64,
 }
 
-/// A plant as a tree of quarters for each estate; a cell has the holding of the leaf above it. What is out is kept in the
-/// order of its numbers.
+/// A plant as a list of townships for each estate, each of one tree or of one for each section; a cell has the holding of the leaf
+/// above it. What is out is kept in the order of its numbers.
 #[derive(Drop)]
 pub struct TreeStore {
     alloc: Global,

@@ -9,7 +9,8 @@ use Rattle.title_instrument.specs.declared.instrument.Instrument.{Instrument}
 use Rattle.title_chain.specs.{declared.{ask.{Step.{Step}, Terms.{Terms}}, record.Record.{Record}}, Alone.{most_parties}}
 use Rattle.title_trace.specs.Due.{most_steps, most_townships}
 use Rattle.title_journal.specs.Blocks.{blocks_in}
-use Rattle.title_plan.specs.{declared.row.{Act.{Act}, Row.{Row}}, Fields.{given, is_name}, Lands.{land_in}, Plans.{numbered}, Rows.{row_in}}
+use Rattle.title_plan.specs.{declared.row.{Act.{Act}, Row.{Row}}, Fields.{given, is_name}, Lands.{land_in, said_township}}
+use Rattle.title_plan.specs.{Plans.{numbered}, Rows.{row_in}}
 use Rattle.title_plan.specs.declared.row.Act.TheVariants as act
 use Rattle.title_plan.specs.declared.row.Row.TheVariants as row
 use Rattle.title_standing.specs.Records.{posted_step}
@@ -17,7 +18,7 @@ use Rattle.title_spelling.specs.{Lands.{kept_land_in}, Posts.{IsExaminer, IsPost
 use Rattle.title_daybook.specs.{AddedLaws.{IsKept}, Files.{after_blocks, and_then, standing_after, standing_in, what_stands}}
 use Rattle.title_daybook.specs.KeptRows.{Progress, after_act, after_begin, after_kept_row, after_last_row, after_party, after_post}
 use Rattle.title_daybook.specs.KeptRows.{after_rows, after_said, between, commits, going_on, inside, is_end, posts}
-use Rattle.title_daybook.specs.{KeptRows.{said_land, said_township, with_record, with_township}, Lines.{fields_in, lines_of, said_by}}
+use Rattle.title_daybook.specs.{KeptRows.{said_land, with_record, with_township}, Lines.{fields_in, lines_of, said_by}}
 use Rattle.title_daybook.specs.Standing.{Standing, nothing_standing}
 use Rattle.title_lasting.specs.Laws.FineRows.{IsFineAct, IsFinePost, IsSaid, LandsHaveCells, first_is_text, names_pushed, numbered_is}
 use Rattle.title_lasting.specs.Laws.FineRows.{row_said as row_may_say, texts_pushed, where_true}

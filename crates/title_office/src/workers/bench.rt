@@ -1,7 +1,8 @@
 //! A worker's calls to its office.
 
-ghost use Rattle.std.specs.Prelude.{◌≡◌, MatchResult, IfErr, IfSome, None, Some};
-ghost use Rattle.title_office.specs.Turns.{EndsTry, EndsWorker};
+ghost use Rattle.std.specs.Prelude.{◌≡◌, MatchResult, IfErr, IfSome, None, OnOk, Some};
+ghost use Rattle.title_office.specs.{declared.workers.came.Came.TheVariants.{Committed}, Offices.{Answers, Refuses}};
+ghost use Rattle.title_office.specs.Turns.{EndsTry, EndsWorker, GoesOn, HasAsked, IsBegun, IsCommitOf, IsLater, IsPassedOver};
 
 use crate::fault::Fault;
 use crate::gate::Gate;
@@ -31,7 +32,7 @@ impl<'a, B: Room, R: Wait, G: Gate> Bench<'a, B, R, G> {
         caller: &mut Caller,
         seat: Seat<B>,
     ) -> Result<Slip<B>, (Seat<B>, Fault)>
-        ensures begun { MatchResult result (λ slip. slip.seat.examiner ≡ seat.examiner)
+        ensures begun { MatchResult result (λ slip. IsBegun seat slip)
             (λ e. (e.0.examiner ≡ seat.examiner) × EndsWorker e.1) }
     {
         caller.before(self.rt, self.gate);
@@ -46,7 +47,8 @@ impl<'a, B: Room, R: Wait, G: Gate> Bench<'a, B, R, G> {
         caller: &mut Caller,
         slip: Slip<B>,
     ) -> Result<Done<B>, (Slip<B>, Fault)>
-        ensures committed { MatchResult result (λ done. done.seat.examiner ≡ slip.seat.examiner)
+        ensures committed { MatchResult result (λ done. IsLater slip.seat done.seat
+            × IsCommitOf slip (Committed (record { place = done.place; rec = done.rec })) done.seat)
             (λ e. (e.0.seat.examiner ≡ slip.seat.examiner) × EndsWorker e.1) }
     {
         caller.before(self.rt, self.gate);
@@ -57,7 +59,7 @@ impl<'a, B: Room, R: Wait, G: Gate> Bench<'a, B, R, G> {
 
     /// Aborts the transaction. `None`: the office takes the slip for a stranger's.
     pub(crate) fn abort(&self, caller: &mut Caller, slip: Slip<B>) -> Option<Seat<B>>
-        ensures back { IfSome result (λ seat. seat.examiner ≡ slip.seat.examiner) }
+        ensures back { IfSome result (λ seat. IsLater slip.seat seat) }
     {
         caller.before(self.rt, self.gate);
         let aborted = self.office.abort(self.rt, slip);
@@ -72,7 +74,8 @@ impl<'a, B: Room, R: Wait, G: Gate> Bench<'a, B, R, G> {
         slip: &mut Slip<B>,
         ask: &Ask,
     ) -> Result<(), Fault>
-        ensures seat { slip.new.seat.examiner ≡ slip.old.seat.examiner }
+        ensures seat { GoesOn slip.old slip.new }
+        ensures asked { OnOk result (HasAsked B.setting slip.old ask.now slip.new) }
         ensures ended { IfErr result EndsTry }
     {
         let Ok(copy) = ask.copy(self.alloc) else {
@@ -85,7 +88,8 @@ impl<'a, B: Room, R: Wait, G: Gate> Bench<'a, B, R, G> {
     }
 
     fn ask(&self, slip: &mut Slip<B>, ask: Ask) -> Result<(), Fault>
-        ensures seat { slip.new.seat.examiner ≡ slip.old.seat.examiner }
+        ensures answered { MatchResult result (λ _. Answers B.setting slip.old ask slip.new)
+            (λ why. Refuses B.setting slip.old ask slip.new why) }
     {
         match ask {
             Ask::Sheet(tract) => self.office.sheet(self.rt, slip, tract),
@@ -106,6 +110,7 @@ fn seat_back<B: Room>(aborted: Result<(Seat<B>, bool), (Slip<B>, Fault)>) -> Opt
 
 // A step that is refused for itself alone is passed over.
 fn passed_over(answered: Result<(), Fault>) -> Result<(), Fault>
+    ensures over { OnOk result (IfErr answered IsPassedOver) }
     ensures ended { IfErr result EndsTry }
     ensures same { IfErr result (λ why. answered ≡ Err why) }
 {

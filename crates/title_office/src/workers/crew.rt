@@ -1,7 +1,7 @@
 //! The threads of the workers.
 
 ghost use Rattle.std.specs.Prelude.{◌≡◌, ◌≤◌, IfSome, [], map, vec_capacity, vec_len};
-ghost use Rattle.title_office.specs.Turns.{HaveRun, report_of, tasks_of};
+ghost use Rattle.title_office.specs.Turns.{HaveRun, report_of};
 
 use crate::gate::Gate;
 use crate::workers::Worked;
@@ -23,14 +23,14 @@ pub(crate) fn run_threads<B: Room + Send + Sync, R: Threads + Wait + Sync, G: Ga
 ) -> Vec<Worked<B>>
     requires empty { worked.items ≡ [] }
     requires room { vec_len jobs.scripts ≤ vec_capacity worked }
-    ensures run { HaveRun (tasks_of jobs.scripts.items) (map report_of result.items) }
+    ensures run { HaveRun B.setting jobs.scripts.items (map report_of result.items) }
 {
     thread::scope(
         thread::scope_env(),
         bench.rt,
         move |scope| -> Vec<Worked<B>>
             requires { (worked.items ≡ []) × (vec_len jobs.scripts ≤ vec_capacity worked) }
-            ensures { HaveRun (tasks_of jobs.scripts.items) (map report_of result.items) }
+            ensures { HaveRun B.setting jobs.scripts.items (map report_of result.items) }
         { run_jobs(scope, bench, tries, jobs, worked) },
     )
 }
@@ -45,7 +45,7 @@ fn run_jobs<'s, 'e: 's, B: Room + Send + Sync, R: Threads + Wait + Sync, G: Gate
 ) -> Vec<Worked<B>>
     requires empty { worked.items ≡ [] }
     requires room { vec_len jobs.scripts ≤ vec_capacity worked }
-    ensures run { HaveRun (tasks_of jobs.scripts.items) (map report_of result.items) }
+    ensures run { HaveRun B.setting jobs.scripts.items (map report_of result.items) }
     ensures len { vec_len result ≡ vec_len jobs.scripts }
     ensures room { vec_capacity result ≡ vec_capacity worked }
 {
@@ -66,8 +66,7 @@ fn start<'s, 'e: 's, B: Room + Send + Sync, R: Threads + Wait + Sync, G: Gate + 
     tries: u32,
     job: Job<B>,
 ) -> Option<PromisedHandle<Worked<B>, Pledge>>
-    ensures examiner { IfSome result (λ handle. handle.promise.examiner ≡ job.script.examiner) }
-    ensures transactions { IfSome result (λ handle. handle.promise.transactions ≡ vec_len job.script.transactions) }
+    ensures script { IfSome result (λ handle. handle.promise.script.value ≡ job.script) }
 {
     let pledge = job.pledge();
     match scope.spawn_with(pledge, move || bench.run(job, tries)) {

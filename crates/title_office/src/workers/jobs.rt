@@ -1,7 +1,7 @@
 //! The jobs that are still to be started.
 
 ghost use Rattle.std.specs.Prelude.{◌≡◌, ◌+◌, ◌++◌, ◌∷◌, [], IfOk, MatchOption, MatchResult, map, vec_len};
-ghost use Rattle.title_office.specs.{Turns.{task_of, tasks_of}, Workers.{examiners_of, seat_examiners}};
+ghost use Rattle.title_office.specs.Workers.{examiners_of, seat_examiners};
 
 use crate::seat::Seat;
 use crate::workers::job::Job;
@@ -43,8 +43,8 @@ impl<B: Room> Jobs<B> {
 
     /// The last job.
     pub(crate) fn pop(&mut self) -> Option<Job<B>>
-        ensures last { MatchOption result (tasks_of self.old.scripts.items ≡ []) (λ job.
-            tasks_of self.old.scripts.items ≡ tasks_of self.new.scripts.items ++ task_of job.script ∷ []) }
+        ensures last { MatchOption result (self.old.scripts.items ≡ []) (λ job.
+            self.old.scripts.items ≡ self.new.scripts.items ++ job.script ∷ []) }
         ensures len { MatchOption result (vec_len self.old.scripts ≡ 0) (λ _. vec_len self.old.scripts ≡ vec_len self.new.scripts + 1) }
     {
         let script = self.scripts.pop()?;

@@ -1,6 +1,6 @@
 //! What is known of a thread's answer.
 
-ghost use Rattle.std.specs.Prelude.{◌≡◌, IfSome, None, Some, vec_len};
+ghost use Rattle.std.specs.Prelude.{◌≡◌, IfSome, None, Some, []};
 ghost use Rattle.title_office.specs.declared.fault.Fault.TheVariants as fault;
 ghost use Rattle.title_office.specs.Turns.{HasRun, report_of};
 
@@ -8,29 +8,31 @@ use crate::fault::Fault;
 use crate::workers::Worked;
 use crate::workers::job::Job;
 use std::alloc::Global;
+use std::snapshot::Snapshot;
 use std::thread::{Promise, PromisedHandle, Threads};
 use title_ledger::Room;
+use title_turns::Script;
 
-/// The examiner and the number of transactions that a thread's answer is for.
-#[derive(Clone, Copy)]
+/// The script that a thread's answer is for, which contracts alone read, and its examiner.
+#[derive(Drop)]
 pub(crate) struct Pledge {
     pub(crate) examiner: u32,
-    pub(crate) transactions: usize,
+    pub(crate) script: Snapshot<Script>,
+    pub(crate) ghost own: { examiner ≡ script.value.examiner },
 }
 
 impl<B: Room> Promise<Worked<B>> for Pledge {
-    ghost kept_by = { λ p w. HasRun (record { examiner = p.examiner; transactions = p.transactions }) (report_of w) };
+    ghost kept_by = { λ p w. HasRun B.setting p.script.value (report_of w) };
 }
 
 impl<B: Room> Job<B> {
     /// What its thread is to answer for.
     pub(crate) fn pledge(&self) -> Pledge
-        ensures examiner { result.examiner ≡ self.now.script.examiner }
-        ensures transactions { result.transactions ≡ vec_len self.now.script.transactions }
+        ensures script { result.script.value ≡ self.now.script }
     {
         Pledge {
             examiner: self.script.examiner,
-            transactions: self.script.transactions.len(),
+            script: Snapshot::of(&self.script),
         }
     }
 }
@@ -43,8 +45,8 @@ impl Pledge {
         alloc: Global,
         started: Option<PromisedHandle<Worked<B>, Pledge>>,
     ) -> Worked<B>
-        requires same { IfSome started (λ handle. handle.promise ≡ self) }
-        ensures run { HasRun (record { examiner = self.examiner; transactions = self.transactions }) (report_of result) }
+        requires same { IfSome started (λ handle. handle.promise.script.value ≡ self.script.value) }
+        ensures run { HasRun B.setting self.script.value (report_of result) }
     {
         match started {
             Some(handle) => handle.join(rt),
@@ -56,6 +58,7 @@ impl Pledge {
         ensures examiner { result.examiner ≡ self.examiner }
         ensures seat { result.seat ≡ None }
         ensures fault { result.fault ≡ Some fault.NoThread }
+        ensures outcomes { result.outcomes.items ≡ [] }
     {
         Worked {
             examiner: self.examiner,

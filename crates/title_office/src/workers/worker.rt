@@ -1,8 +1,10 @@
 //! A worker's transactions.
 
-ghost use Rattle.std.specs.Prelude.{◌≡◌, ◌+◌, IfOk, IfErr, IfSome, MatchResult, OnOk, Some, length, true, vec_len};
+ghost use Rattle.std.specs.Prelude.{◌≡◌, ◌+◌, IfOk, IfErr, IfSome, MatchResult, OnOk, Some, [], length, map, vec_len};
+ghost use Rattle.title_turns.specs.Dealt.{dealt_in};
 ghost use Rattle.title_office.specs.declared.workers.came.Came.TheVariants as came;
-ghost use Rattle.title_office.specs.Turns.{EndsTry, EndsWorker, HasRun, IsCameOf, report_of, task_of};
+ghost use Rattle.title_office.specs.Transactions.{IsRunOf, asks_of, served_asks};
+ghost use Rattle.title_office.specs.Turns.{EndsTry, EndsWorker, GoesOn, HasRun, IsCameOf, IsCommitOf, IsLater, report_of};
 
 use crate::fault::Fault;
 use crate::gate::Gate;
@@ -26,8 +28,7 @@ use title_turns::Transaction;
 impl<'a, B: Room, R: Wait, G: Gate> Bench<'a, B, R, G> {
     /// Runs a job's script.
     pub(crate) fn run(&self, job: Job<B>, tries: u32) -> Worked<B>
-        ensures run { HasRun (task_of job.script)
-            (report_of result) }
+        ensures run { HasRun B.setting job.script (report_of result) }
     {
         let Job {
             seat,
@@ -51,6 +52,7 @@ impl<'a, B: Room, R: Wait, G: Gate> Bench<'a, B, R, G> {
         requires left { tally.old.left ≡ length transactions.now }
         ensures seat { MatchResult result (λ back. back.examiner ≡ seat.examiner)
             (λ stop. IfSome stop.seat (λ back. back.examiner ≡ seat.examiner) × EndsWorker stop.fault) }
+        ensures run { IsRunOf B.setting seat.examiner (map dealt_in transactions.now) tally.new.outcomes.items }
         ensures counted { OnOk result (vec_len tally.new.outcomes + tally.new.aborted + tally.new.given_up ≡ length transactions.now) }
     {
         let mut seat = seat;
@@ -74,9 +76,9 @@ impl<'a, B: Room, R: Wait, G: Gate> Bench<'a, B, R, G> {
         transaction: &Transaction,
         tries: u32,
     ) -> Tried<B>
-        ensures seat { MatchResult result (λ tried. tried.0.examiner ≡ seat.examiner)
+        ensures seat { MatchResult result (λ tried. IsLater seat tried.0)
             (λ stop. IfSome stop.seat (λ back. back.examiner ≡ seat.examiner) × EndsWorker stop.fault) }
-        ensures came { IfOk result (λ tried. IsCameOf transaction.now.commits tried.1) }
+        ensures came { IfOk result (λ tried. IsCameOf B.setting seat (dealt_in transaction.now) tried.1 tried.0) }
     {
         let mut seat = seat;
         for _ in 0..tries {
@@ -91,9 +93,9 @@ impl<'a, B: Room, R: Wait, G: Gate> Bench<'a, B, R, G> {
     }
 
     fn attempt(&self, caller: &mut Caller, seat: Seat<B>, transaction: &Transaction) -> Tried<B>
-        ensures seat { MatchResult result (λ tried. tried.0.examiner ≡ seat.examiner)
+        ensures seat { MatchResult result (λ tried. IsLater seat tried.0)
             (λ stop. IfSome stop.seat (λ back. back.examiner ≡ seat.examiner) × EndsWorker stop.fault) }
-        ensures came { IfOk result (λ tried. IsCameOf transaction.now.commits tried.1) }
+        ensures came { IfOk result (λ tried. IsCameOf B.setting seat (dealt_in transaction.now) tried.1 tried.0) }
     {
         let mut slip = match self.begin(caller, seat) {
             Ok(slip) => slip,
@@ -108,7 +110,9 @@ impl<'a, B: Room, R: Wait, G: Gate> Bench<'a, B, R, G> {
 
     // Makes the steps in order, until one ends the try.
     fn ask_all(&self, caller: &mut Caller, slip: &mut Slip<B>, asks: &[Ask]) -> Result<(), Fault>
-        ensures seat { slip.new.seat.examiner ≡ slip.old.seat.examiner }
+        requires none { slip.old.rec.steps ≡ [] }
+        ensures seat { GoesOn slip.old slip.new }
+        ensures asked { OnOk result (asks_of slip.new.rec ≡ served_asks B.setting asks.now) }
         ensures ended { IfErr result EndsTry }
     {
         for ask in asks {
@@ -118,9 +122,9 @@ impl<'a, B: Room, R: Wait, G: Gate> Bench<'a, B, R, G> {
     }
 
     fn finish(&self, caller: &mut Caller, slip: Slip<B>) -> Tried<B>
-        ensures seat { MatchResult result (λ tried. tried.0.examiner ≡ slip.seat.examiner)
+        ensures seat { MatchResult result (λ tried. IsLater slip.seat tried.0)
             (λ stop. IfSome stop.seat (λ back. back.examiner ≡ slip.seat.examiner) × EndsWorker stop.fault) }
-        ensures came { IfOk result (λ tried. IsCameOf true tried.1) }
+        ensures came { IfOk result (λ tried. IsCommitOf slip tried.1 tried.0) }
     {
         match self.commit(caller, slip) {
             Ok(done) => {
@@ -139,7 +143,7 @@ impl<'a, B: Room, R: Wait, G: Gate> Bench<'a, B, R, G> {
     // After a step that ended the try.
     fn refused(&self, caller: &mut Caller, slip: Slip<B>, why: Fault) -> Tried<B>
         requires ended { EndsTry why }
-        ensures seat { MatchResult result (λ tried. tried.0.examiner ≡ slip.seat.examiner)
+        ensures seat { MatchResult result (λ tried. IsLater slip.seat tried.0)
             (λ stop. IfSome stop.seat (λ back. back.examiner ≡ slip.seat.examiner) × EndsWorker stop.fault) }
         ensures came { IfOk result (λ tried. tried.1 ≡ came.InTheWay) }
     {
@@ -151,7 +155,7 @@ impl<'a, B: Room, R: Wait, G: Gate> Bench<'a, B, R, G> {
 
     // Aborts the transaction; the worker goes on.
     fn back_out(&self, caller: &mut Caller, slip: Slip<B>, came: Came) -> Tried<B>
-        ensures seat { MatchResult result (λ tried. tried.0.examiner ≡ slip.seat.examiner)
+        ensures seat { MatchResult result (λ tried. IsLater slip.seat tried.0)
             (λ stop. IfSome stop.seat (λ back. back.examiner ≡ slip.seat.examiner) × EndsWorker stop.fault) }
         ensures came { IfOk result (λ tried. tried.1 ≡ came) }
     {
@@ -175,6 +179,7 @@ fn stopped<B: Room>(tally: Tally, examiner: u32, stop: Stop<B>) -> Worked<B>
     ensures examiner { result.examiner ≡ examiner }
     ensures seat { result.seat ≡ stop.seat }
     ensures fault { result.fault ≡ Some stop.fault }
+    ensures outcomes { result.outcomes ≡ tally.outcomes }
 {
     let Stop { seat, fault } = stop;
     tally.ended(examiner, seat, Some(fault))

@@ -1,42 +1,18 @@
 //! Rows that declare.
 
-ghost use Rattle.std.specs.{Prelude.{◌≡◌, ◌≤◌, ◌==◌, ◌⊎◌, ◌&&◌, ◌||◌, ◌∷◌, ◌++◌, [], Ok, Err, IfErr, MatchResult, OnOk}, List.{list_any}};
-ghost use Rattle.std.specs.{Prelude.{drop, length, nat_le, take}, Str.{bytes_eq}};
+ghost use Rattle.std.specs.{Prelude.{◌≡◌, ◌≤◌, ◌==◌, ◌⊎◌, ◌&&◌, Ok, Err, IfErr, OnOk, drop, length, take}, List.{list_any}};
+ghost use Rattle.std.specs.Str.{bytes_eq};
 ghost use Rattle.title_land.specs.Survey.{same_township};
 ghost use Rattle.title_plan.specs.declared.fault.ScriptFault.TheVariants as fault;
 ghost use Rattle.title_plan.specs.{Asked.{asked_in}, Lands.{land_in}, Onto.{first_of, party_onto, township_onto}};
 ghost use Rattle.title_plan.specs.Plans.{with_party, with_township};
-ghost use Rattle.title_trace.specs.Due.{most_townships};
 
+use crate::declaring::{add_party, add_township, is_declared, is_full, is_refused};
 use crate::fault::ScriptFault;
-use crate::lands::read_tract;
+use crate::lands::{read_tract, said_township};
 use crate::onto::Stood;
 use crate::plan::Plan;
-use std::alloc::AllocError;
-use title_land::{Land, Township};
-use title_trace::{MOST_PARTIES, MOST_TOWNSHIPS};
-
-// Whether a township is declared.
-fn is_declared(townships: &[Township], township: Township) -> bool
-    ensures declared { result ≡ list_any (λ other. same_township other township) townships.now }
-{
-    townships.iter().any(|other| other.is(township))
-}
-
-// Whether a township is refused: it is declared, or as many are as may be.
-fn is_refused(townships: &[Township], township: Township) -> bool
-    ensures refused { result ≡ (nat_le most_townships (length townships.now)
-        || list_any (λ other. same_township other township) townships.now) }
-{
-    townships.len() >= MOST_TOWNSHIPS || is_declared(townships, township)
-}
-
-fn push(townships: &mut Vec<Township>, township: Township) -> Result<(), AllocError>
-    ensures pushed { MatchResult result (λ _. townships.new.items ≡ townships.old.items ++ township ∷ [])
-        (λ _. townships.new.items ≡ townships.old.items) }
-{
-    Ok(townships.push(township)?)
-}
+use title_land::Township;
 
 impl Plan {
     // Declares a township.
@@ -50,7 +26,7 @@ impl Plan {
         if !self.lines.is_empty() {
             return Err(ScriptFault::Order(n));
         }
-        Ok(push(&mut self.townships, township)?)
+        Ok(add_township(&mut self.townships, township)?)
     }
 
     // Whether no step has come yet and a township stood before the script.
@@ -76,18 +52,13 @@ impl Plan {
         ensures err { IfErr result (λ e. (e ≡ fault.Memory)
             ⊎ (township_onto (first_of stood (asked_in self.old)) n (asked_in self.old) (land_in text.now) ≡ Err e)) }
     {
-        let Ok(tract) = read_tract(self.alloc, text)? else {
+        let Some(township) = said_township(read_tract(self.alloc, text)?) else {
             return Err(ScriptFault::Row(n));
         };
-        match tract.land() {
-            Land::Township(township) => {
-                if self.is_again(stood, township) {
-                    return Ok(());
-                }
-                self.declare(n, township)
-            }
-            _ => Err(ScriptFault::Row(n)),
+        if self.is_again(stood, township) {
+            return Ok(());
         }
+        self.declare(n, township)
     }
 
     // Declares a party.
@@ -95,17 +66,15 @@ impl Plan {
         ensures ok { OnOk result (with_party n (asked_in self.old) name.now ≡ Ok (asked_in self.new)) }
         ensures err { IfErr result (λ e. (e ≡ fault.Memory) ⊎ (with_party n (asked_in self.old) name.now ≡ Err e)) }
     {
-        if self.parties.len() >= MOST_PARTIES as usize {
+        if is_full(&self.parties) {
             return Err(ScriptFault::Row(n));
         }
         if !self.lines.is_empty() {
             return Err(ScriptFault::Order(n));
         }
-        if self.parties.contains(name) {
+        if !add_party(self.alloc, &mut self.parties, name)? {
             return Err(ScriptFault::Party(n));
         }
-        let name = String::from_str(self.alloc, name)?;
-        self.parties.insert(name)?;
         Ok(())
     }
 

@@ -1,24 +1,22 @@
 //! Rows of steps.
 
-ghost use Rattle.std.specs.Prelude.{◌≡◌, ◌⊎◌, Ok, Err, IfErr, IfOk, OnOk};
+ghost use Rattle.std.specs.Prelude.{◌≡◌, ◌⊎◌, Ok, Err, IfErr, OnOk};
 ghost use Rattle.title_plan.specs.declared.fault.ScriptFault.TheVariants as fault;
 ghost use Rattle.title_trace.specs.declared.call.Request.TheVariants as request;
 ghost use Rattle.title_plan.specs.declared.line.Line.TheVariants as line;
-ghost use Rattle.title_plan.specs.{Asked.{asked_in}, Plans.{after_act, after_asked, asked_of, line_of, post}, Rows.{done}};
+ghost use Rattle.title_plan.specs.{Asked.{asked_in}, Plans.{after_act, after_asked, line_of}, Requests.{after_request}, Rows.{done}};
 ghost use Rattle.title_plan.specs.Plans.{with_begun, with_ended, with_line};
 
 use crate::fault::ScriptFault;
 use crate::line::{Line, Schedule};
-use crate::numbers::numbered;
 use crate::plan::Plan;
 use crate::plan::turns::{begin, end};
 use crate::readings::Readings;
+use crate::requests::request_of;
 use crate::row::Act;
-use std::alloc::{AllocError, Global};
+use std::alloc::AllocError;
 use title_aliquot::DescFault;
-use title_chain::{Ask, Posting, Terms};
-use title_instrument::Instrument;
-use title_land::Tract;
+use title_chain::Ask;
 use title_trace::Request;
 
 // The step of an examiner: it asks, alone or not, or its description has a fault.
@@ -29,28 +27,6 @@ fn line(alone: bool, examiner: u32, asked: Result<Ask, DescFault>) -> Line
         Ok(ask) if alone => Line::Alone(examiner, ask),
         Ok(ask) => Line::Asks(Request::Step(examiner, ask)),
         Err(why) => Line::Described(examiner, why),
-    }
-}
-
-// The post of an instrument in a tract, or why there is no tract.
-fn posted(
-    alloc: Global,
-    doc: u64,
-    tract: Result<Tract, DescFault>,
-    instrument: Instrument,
-) -> Result<Result<Ask, DescFault>, AllocError>
-    ensures posted { IfOk result (λ r. r ≡ asked_of (post doc instrument) tract) }
-{
-    match tract {
-        Ok(tract) => {
-            let terms = Terms {
-                doc,
-                tract,
-                instrument,
-            };
-            Ok(Ok(Ask::Post(Posting::new(alloc, terms)?)))
-        }
-        Err(why) => Ok(Err(why)),
     }
 }
 
@@ -100,6 +76,26 @@ impl Plan {
         Ok(self.add(line(alone, examiner, asked))?)
     }
 
+    // Takes a request of an examiner in its turn, or the fault of its description.
+    fn take_request(
+        &mut self,
+        schedule: Schedule,
+        n: u64,
+        examiner: u32,
+        asked: Result<Request, DescFault>,
+    ) -> Result<(), ScriptFault>
+        ensures ok { OnOk result (after_request schedule n (asked_in self.old) examiner asked ≡ Ok (asked_in self.new)) }
+        ensures err { IfErr result (λ e. (e ≡ fault.Memory) ⊎ (after_request schedule n (asked_in self.old) examiner asked ≡ Err e)) }
+    {
+        match asked {
+            Ok(Request::Begin(examiner)) => Ok(self.begin(schedule, examiner)?),
+            Ok(Request::Commit(examiner)) => Ok(self.end(Request::Commit(examiner), examiner)?),
+            Ok(Request::Abort(examiner)) => Ok(self.end(Request::Abort(examiner), examiner)?),
+            Ok(Request::Step(examiner, ask)) => self.take_asked(schedule, n, examiner, Ok(ask)),
+            Err(why) => self.take_asked(schedule, n, examiner, Err(why)),
+        }
+    }
+
     // Takes what an examiner does in its turn.
     pub(super) fn take_act(
         &mut self,
@@ -113,26 +109,7 @@ impl Plan {
         ensures err { IfErr result (λ e. (e ≡ fault.Memory)
             ⊎ (after_act schedule n (asked_in self.old) examiner (done act.now) ≡ Err e)) }
     {
-        match *act {
-            Act::Begin => Ok(self.begin(schedule, examiner)?),
-            Act::Commit => Ok(self.end(Request::Commit(examiner), examiner)?),
-            Act::Abort => Ok(self.end(Request::Abort(examiner), examiner)?),
-            Act::Sheet(text) => {
-                let asked = readings.read(text)?.map(Ask::Sheet);
-                self.take_asked(schedule, n, examiner, asked)
-            }
-            Act::Chain(text) => {
-                let asked = readings.read(text)?.map(Ask::Chain);
-                self.take_asked(schedule, n, examiner, asked)
-            }
-            Act::Post(doc, ref instrument, text) => {
-                let Some(instrument) = numbered(&self.parties, instrument) else {
-                    return Err(ScriptFault::Party(n));
-                };
-                let tract = readings.read(text)?;
-                let asked = posted(self.alloc, doc, tract, instrument)?;
-                self.take_asked(schedule, n, examiner, asked)
-            }
-        }
+        let asked = request_of(self.alloc, readings, &self.parties, n, examiner, act)?;
+        self.take_request(schedule, n, examiner, asked)
     }
 }

@@ -1,5 +1,6 @@
 -- What the office's day leaves is a report of the script.
-use Rattle.std.proofs.Common.{refl}
+use Rattle.std.proofs.Common.{ℕ, List, ap₂}
+use Rattle.title_land.specs.declared.survey.Township.{Township}
 use Rattle.title_day.{specs.Closings.{closed_text}, proofs.{OfficeCauses.{residual_is_own}, OfficeOrder.{seats_fit}}}
 use Rattle.title_day.proofs.OfficeReported.{reported}
 use Rattle.title_day.proofs.office_runs.close_by_threads.Goals as goal
@@ -12,11 +13,13 @@ returns-in_err-script-clause-why g c =
 pub run_day-requires-clause-fits : goal.run_day-requires-clause-fits
 run_day-requires-clause-fits g c κs within =
     let s = c.in_ok-script.ensures.script in
-    seats_fit s.0.lines c.in_ok-script.script.scripts.items 1 c.args.examiners s.5 s.6
+    seats_fit s.0.lines c.in_ok-script.script.scripts.items 1 c.args.examiners s.2.many s.2.dealt
 
 pub returns-clause-report : goal.returns-clause-report
 returns-clause-report g c =
-    reported c.args.examiners c.args.bytes.now c.in_ok-script.script c.as_slice-plant.result.now c.in_ok-day.day.tallies.items
+    let plant = c.as_slice-plant.result.now in
+    reported c.args.examiners c.args.bytes.now c.in_ok-script.script (record { parties = c.len-count.result; townships = plant })
     c.in_ok-day.day.tallies.items c.in_ok-day.day.records (closed_text c.in_ok-closing.closing) c.in_ok-script.ensures.script
-    c.as_slice-plant.ensures.value refl c.in_ok-day.ensures.told c.in_ok-day.ensures.counted
-    c.in_ok-day.ensures.serial c.in_ok-closing.ensures.text
+    (ap₂ (λ (n : ℕ) (ts : List Township). record { parties = n; townships = ts }) c.len-count.ensures.len c.as_slice-plant.ensures.value)
+    c.in_ok-day.ensures.told c.in_ok-day.ensures.made c.in_ok-day.ensures.counted c.in_ok-day.ensures.serial
+    c.in_ok-closing.ensures.text

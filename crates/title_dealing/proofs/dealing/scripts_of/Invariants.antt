@@ -1,5 +1,6 @@
 use Rattle.std.proofs.Common.{◌≡◌, ◌+◌, ◌++◌, length, map, suc}
-use Rattle.title_dealing.specs.Dealing.{told_by, told_of}
+use Rattle.title_turns.specs.Dealt.{told_by}
+use Rattle.title_dealing.specs.Dealing.{told_of}
 use Rattle.title_dealing.proofs.dealing.scripts_of.Given as goal
 
 abbrev pub invariant-loop-hand : goal.invariant-loop-hand

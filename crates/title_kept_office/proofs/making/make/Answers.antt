@@ -85,6 +85,6 @@ returns-clause-made g c =
     let few = subst (λ (n : ℕ). n ≤ most_parties) (sym parties) c.args.stands.few in
     office_made c.replayed_records_are_committed.ensures.law c.kept_records_are_serial.ensures.law c.args.examiners s left (asked_in plan)
     footing.asked c.requires.stands.0 c.requires.stands.1 plan.once plan.few_townships few c.in_ok-begun.begun.desk.value footing.served
-    c.in_ok-begun.begun.stood
+    c.lands_have_cells.ensures.law c.descriptions_stay.ensures.law c.in_ok-begun.begun.stood
     (record { townships = footing.townships_stood; names = footing.names_stood; records = footing.records_stood })
     c.in_ok-made.made c.in_ok-made.ensures.run

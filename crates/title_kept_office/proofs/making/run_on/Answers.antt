@@ -7,7 +7,8 @@ use Rattle.title_store.specs.Plants.{IsEachOnce}
 use Rattle.title_trace.specs.Trace.{committed}
 use Rattle.title_desk.specs.Told.{Books}
 use Rattle.title_plan.specs.Asked.{asked_in}
-use Rattle.title_day.specs.DaysOn.{GoesOnFrom, closing_text_on}
+use Rattle.title_turns.specs.Dealt.{Dealt, told_by}
+use Rattle.title_day.specs.{DaysOn.{GoesOnFrom, closing_text_on}, OfficeRecords.{AreMadeOf}}
 use Rattle.title_lasting.specs.{Footings.{Continues, IsNew, stands_on}, Kept.{text_in}}
 use Rattle.title_kept_office.{specs.OfficeDays.{IsOwnTrouble}, proofs.Ended.{ended_by, office_trouble, unwritten_trouble}}
 use Rattle.title_kept_office.proofs.making.run_on.Goals as goal
@@ -64,8 +65,8 @@ returns-in_err-block-clause-why g c =
     ended_by IsOwnTrouble _ c.from_residual-in_err-block.result c.from_residual-in_err-block.ensures.1
     (unwritten_trouble c.in_err-block.field-0.0)
 
-pub close_office_on-requires : goal.close_office_on-requires
-close_office_on-requires g c =
+pub close_office-requires : goal.close_office-requires
+close_office-requires g c =
     let listed = c.as_slice-listed.ensures.value ∙ c.in_ok-script.ensures.script.townships in
     record {
       once = subst IsEachOnce (sym listed) c.requires.once;
@@ -83,10 +84,11 @@ returns-clause-run g c =
     let script = c.in_ok-script.ensures.script in
     let asked = asked_in c.args.plan in
     let listed = c.as_slice-listed.ensures.value ∙ script.townships in
+    let scripts = c.in_ok-script.script.scripts.items in
+    let desk = c.args.desk.value in
     let tallies = c.in_ok-day.day.tallies.items in
     let records = c.in_ok-day.day.records in
-    let told = c.dealt_scripts_fit.ensures.tallies asked.lines c.in_ok-script.script.scripts.items tallies script.dealt
-    c.in_ok-day.ensures.told in
+    let told = c.dealt_scripts_fit.ensures.tallies asked.lines scripts tallies script.dealt c.in_ok-day.ensures.told in
     record {
       tallies = tallies;
       records = records;
@@ -96,6 +98,10 @@ returns-clause-run g c =
       tallies_are = told.0;
       counted = subst (λ (d : Books). sum (map (λ t. t.committed) tallies) + length (committed d.trace) ≡ length records)
           c.into_inner.ensures c.in_ok-day.ensures.counted;
+      is_made = subst (λ (dealt : List (ℕ × List Dealt)). AreMadeOf desk.setting dealt (committed desk.trace) tallies records)
+          (c.dealt_scripts_fit.ensures.asked asked.lines c.args.examiners scripts script.many script.dealt)
+          (subst (λ (d : Books). AreMadeOf d.setting (map told_by scripts) (committed d.trace) tallies records) c.into_inner.ensures
+          c.in_ok-day.ensures.made);
       report = c.in_ok-closing.ensures.text
           ∙ ap (λ (ts : List Township). closing_text_on ts (map string_bytes c.in_ok-script.script.parties.keys)
           c.in_ok-script.script.steps tallies c.args.kept records) listed

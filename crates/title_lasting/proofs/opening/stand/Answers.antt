@@ -2,9 +2,10 @@
 use Rattle.std.proofs.Common.{List, map, reverse, subst, sym}
 use Rattle.title_chain.specs.Alone.{most_parties}
 use Rattle.title_trace.specs.Due.{MayOpen}
+use Rattle.title_plan.specs.Laws.Declarations.{may_open}
 use Rattle.title_standing.specs.{Records.{record_of}, declared.deeds.Deeds.{Deeds}}
 use Rattle.title_daybook.specs.Books.{standing_of}
-use Rattle.title_lasting.{specs.Replays.{AreShort}, proofs.FileOpened.{may_open, standing_short}}
+use Rattle.title_lasting.{specs.Replays.{AreShort}, proofs.FileOpened.{standing_short}}
 use Rattle.title_lasting.proofs.opening.stand.Goals as goal
 
 pub replay_deeds-requires-clause-opens : goal.replay_deeds-requires-clause-opens

@@ -1,7 +1,0 @@
--- The outcomes of the records so far.
-use Rattle.std.proofs.Common.{◌≡◌, take}
-use Rattle.title_day.specs.DaysOn.{placed}
-use Rattle.title_day.proofs.office_day_on.outcomes_of.Given as goal
-
-abbrev pub invariant-loop-index : goal.invariant-loop-index
-invariant-loop-index l = l.outcomes.items ≡ placed 1 (take l.index l.records)
