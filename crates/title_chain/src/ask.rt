@@ -18,9 +18,17 @@ pub struct Terms {
 }
 
 /// An instrument as it is posted. A contract sees it as its terms. Copies share them.
-#[derive(Debug, Drop)]
+#[derive(Debug)]
 pub struct Posting {
     shared: Arc<Terms>,
+}
+
+// By hand, so that whoever lets one go sees one call.
+impl Drop for Posting {
+    fn drop(self) {
+        let Posting { shared } = self;
+        drop(shared);
+    }
 }
 
 impl Model for Posting {

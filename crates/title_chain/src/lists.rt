@@ -65,9 +65,17 @@ pub enum Sheet {
 }
 
 /// The rows of a sheet, in order. Copies share them.
-#[derive(Debug, Drop)]
+#[derive(Debug)]
 pub struct SheetRows {
     shared: Arc<Sheet>,
+}
+
+// By hand, so that whoever lets one go sees one call.
+impl Drop for SheetRows {
+    fn drop(self) {
+        let SheetRows { shared } = self;
+        drop(shared);
+    }
 }
 
 impl Model for SheetRows {
@@ -306,9 +314,17 @@ impl SheetRows {
 }
 
 /// The entries of a chain, in order. Copies share them.
-#[derive(Debug, Drop)]
+#[derive(Debug)]
 pub struct Entries {
     items: ArcSlice<Entry>,
+}
+
+// By hand, so that whoever lets one go sees one call.
+impl Drop for Entries {
+    fn drop(self) {
+        let Entries { items } = self;
+        drop(items);
+    }
 }
 
 impl Model for Entries {
@@ -354,9 +370,17 @@ pub(crate) enum KeptSteps {
 }
 
 /// The steps of a transaction, the oldest first.
-#[derive(Debug, Drop)]
+#[derive(Debug)]
 pub struct Steps {
     kept: KeptSteps,
+}
+
+// By hand, so that whoever lets one go sees one call.
+impl Drop for Steps {
+    fn drop(self) {
+        let Steps { kept } = self;
+        drop(kept);
+    }
 }
 
 impl Model for Steps {
@@ -407,7 +431,7 @@ impl Steps {
         ensures vec { IfOk result (λ items. items.items ≡ self) }
         ensures back { IfErr result (λ back. back ≡ self) }
     {
-        let kept = self.kept;
+        let Steps { kept } = self;
         let step = match kept {
             KeptSteps::One(step) => step,
             KeptSteps::Many(items) => return Ok(items),
@@ -433,9 +457,17 @@ impl Steps {
 }
 
 /// Records in the order of their commits; the place of a record is its number in the list, from 1.
-#[derive(Debug, Drop)]
+#[derive(Debug)]
 pub struct Records {
     items: Vec<Record>,
+}
+
+// By hand, so that whoever lets one go sees one call.
+impl Drop for Records {
+    fn drop(self) {
+        let Records { items } = self;
+        drop(items);
+    }
 }
 
 impl Model for Records {
@@ -466,7 +498,8 @@ impl Records {
     pub fn into_vec(self) -> Vec<Record>
         ensures vec { result.items ≡ self }
     {
-        self.items
+        let Records { items } = self;
+        items
     }
 
     /// The list of copies of these records.

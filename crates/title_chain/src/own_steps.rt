@@ -13,10 +13,19 @@ use title_land::Tract;
 
 /// The steps of an open transaction, the oldest first, with an index of its posts by the nodes of their tracts' covers,
 /// which is brought up to date when a chain is asked for.
-#[derive(Debug, Drop)]
+#[derive(Debug)]
 pub struct OwnSteps {
     steps: Vec<Step>,
     filing: Filing,
+}
+
+// By hand, so that whoever lets one go sees one call.
+impl Drop for OwnSteps {
+    fn drop(self) {
+        let OwnSteps { steps, filing } = self;
+        drop(steps);
+        drop(filing);
+    }
 }
 
 impl Model for OwnSteps {
@@ -76,7 +85,10 @@ impl OwnSteps {
     pub fn into_steps(self) -> Steps
         ensures steps { result ≡ self.steps }
     {
-        let mut steps = self.steps;
+        let OwnSteps {
+            mut steps,
+            filing: _,
+        } = self;
         steps.shrink_to_fit();
         Steps::new(steps)
     }

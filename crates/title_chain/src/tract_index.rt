@@ -14,11 +14,24 @@ use title_land::Tract;
 
 /// Committed transactions in the order of their commits, with an index of their posts by the nodes of their tracts' covers,
 /// which is brought up to date when a chain is asked for. The place of a record is its number in the list, from 1.
-#[derive(Debug, Drop)]
+#[derive(Debug)]
 pub struct TractIndex {
     alloc: Global,
     records: Vec<Record>,
     filing: Filing,
+}
+
+// By hand, so that whoever lets one go sees one call.
+impl Drop for TractIndex {
+    fn drop(self) {
+        let TractIndex {
+            alloc: _,
+            records,
+            filing,
+        } = self;
+        drop(records);
+        drop(filing);
+    }
 }
 
 impl Model for TractIndex {

@@ -34,7 +34,6 @@ use title_tree_store::TreeStore;
 
 /// What is declared, the desk, how many rows there were, how many step rows that were served or whose description is none, and
 /// whether no township may be declared any more; beside them the descriptions that were read.
-#[derive(Drop)]
 pub struct Clerk {
     pub(crate) alloc: Global,
     pub declared: Declared,
@@ -46,6 +45,24 @@ pub struct Clerk {
     ghost setting: { desk.setting ≡ record { parties = most_parties; townships = declared.townships.items } },
     ghost unasked: { shut ≡ false → desk.trace ≡ [] },
     ghost counts: { steps ≤ rows },
+}
+
+// By hand, so that whoever lets one go sees one call.
+impl Drop for Clerk {
+    fn drop(self) {
+        let Clerk {
+            alloc: _,
+            declared,
+            readings,
+            desk,
+            rows: _,
+            steps: _,
+            shut: _,
+        } = self;
+        drop(declared);
+        drop(readings);
+        drop(desk);
+    }
 }
 
 // Asks the desk. Where memory is wanted nothing has changed.

@@ -23,7 +23,9 @@ use title_chain::{Record, Records};
 use title_desk::Desk;
 use title_land::Township;
 use title_lock::NodeLocks;
-use title_office::{Ledger, Office, OpenGate, Opened, Outcome, Room, Script, Seat, Worked, work};
+use title_office::{
+    Ledger, Office, OpenGate, Opened, Outcome, Room, Script, Seat, Unopened, Worked, work,
+};
 use title_script::RunFault;
 use title_settle::laws::as_many_outcomes_as_records;
 use title_tree_store::TreeStore;
@@ -117,6 +119,44 @@ fn settle<B: Room, T: Wait>(
     }
 }
 
+// Runs the scripts in an office that has just been opened, settles it with what stood and ends it; Memory where there was none for either.
+fn run_opened<B: Room + Send + Sync, T: Threads + Wait + Sync>(
+    rt: &T,
+    alloc: Global,
+    opened: Result<Opened<B>, Unopened>,
+    stood: Result<Vec<Outcome>, AllocError>,
+    scripts: Vec<Script>,
+    tries: u32,
+) -> Result<Day, OfficeFault>
+    requires fits { IfOk opened (λ o. seat_examiners o.seats.items ≡ examiners_of scripts.items) }
+    ensures told { IfOk result (λ day. AreTold scripts.items day.tallies.items) }
+    ensures made { (old : List RecordOf) → IfOk stood (λ v. v.items ≡ placed 1 old)
+        → IfOk result (λ day. AreMadeOf B.setting (map told_by scripts.items) (reverse old) day.tallies.items day.records) }
+    ensures begins { (old : List RecordOf) → IfOk stood (λ v. v.items ≡ placed 1 old)
+        → IfOk result (λ day. GoesOnFrom B.setting (reverse old) day.records) }
+    ensures why { IfErr result IsOfficeTrouble }
+{
+    let Ok(opened) = opened else {
+        return Err(OfficeFault::Run(RunFault::Memory));
+    };
+    let Opened {
+        office,
+        seats,
+        viewers: _,
+    } = opened;
+    let Ok(stood) = stood else {
+        office.close(rt);
+        return Err(OfficeFault::Run(RunFault::Memory));
+    };
+    match run_scripts(rt, alloc, &office, seats, scripts, tries) {
+        Ok(worked) => settle(rt, alloc, office, stood, worked),
+        Err(why) => {
+            office.close(rt);
+            Err(why)
+        }
+    }
+}
+
 // Opens an office without viewers on a desk, runs the scripts, settles it and ends it.
 fn keep_day<B: Room + Send + Sync, T: Threads + Wait + Sync>(
     rt: &T,
@@ -142,27 +182,11 @@ fn keep_day<B: Room + Send + Sync, T: Threads + Wait + Sync>(
     ensures why { IfErr result IsOfficeTrouble }
 {
     as_many_outcomes_as_records();
-    let Ok(stood) = outcomes_of(alloc, desk.records()) else {
-        return Err(OfficeFault::Run(RunFault::Memory));
-    };
+    let stood = outcomes_of(alloc, desk.records());
     let opened = Office::<B>::open_on(
         rt, alloc, ledger, OFFICE, desk, townships, examiners, VIEWERS,
     );
-    let Ok(opened) = opened else {
-        return Err(OfficeFault::Run(RunFault::Memory));
-    };
-    let Opened {
-        office,
-        seats,
-        viewers: _,
-    } = opened;
-    match run_scripts(rt, alloc, &office, seats, scripts, tries) {
-        Ok(worked) => settle(rt, alloc, office, stood, worked),
-        Err(why) => {
-            office.close(rt);
-            Err(why)
-        }
-    }
+    run_opened(rt, alloc, opened, stood, scripts, tries)
 }
 
 /// Opens an office on a desk of these townships that has served what stands, runs each examiner's script by a thread of its own, and

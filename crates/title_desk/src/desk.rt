@@ -51,7 +51,6 @@ pub fn may_open(parties: u32, townships: &[Township]) -> bool
 
 /// The transactions of any number of examiners over a store and guards. A contract sees its setting, its trace, which takes no
 /// memory, and whether it has room for one record more.
-#[derive(Drop)]
 pub struct Desk<S: Store + Drop, G: Guards + Drop> {
     alloc: Global,
     parties: u32,
@@ -61,6 +60,28 @@ pub struct Desk<S: Store + Drop, G: Guards + Drop> {
     calls: Calls,
     records: TractIndex,
     transactions: OpenTransactions<S>,
+}
+
+// By hand, so that whoever lets one go sees one call.
+impl<S: Store + Drop, G: Guards + Drop> Drop for Desk<S, G> {
+    fn drop(self) {
+        let Desk {
+            alloc: _,
+            parties: _,
+            townships,
+            store,
+            guards,
+            calls,
+            records,
+            transactions,
+        } = self;
+        drop(townships);
+        drop(store);
+        drop(guards);
+        drop(calls);
+        drop(records);
+        drop(transactions);
+    }
 }
 
 impl<S: Store + Drop, G: Guards + Drop> Model for Desk<S, G> {

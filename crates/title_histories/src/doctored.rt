@@ -1,6 +1,6 @@
 //! Histories by hand that no plain machine answers.
 
-use crate::plain::{Disagreement, Plain};
+use crate::plain::{Found, Plain, check};
 use std::alloc::{AllocError, Global};
 use title_chain::{Ask, Posting, Record, Terms};
 use title_chance::township;
@@ -8,9 +8,6 @@ use title_instrument::{Estates, Instrument, Release};
 use title_land::{Node, Section, Township, Tract, Within};
 use title_settle::Outcome;
 use title_trace::{Reply, Request};
-
-/// Where a history and the plain machine disagree first, if they do.
-pub type Found = Result<Option<Disagreement>, AllocError>;
 
 /// What two examiners did to a section, as records of plain machines: a deed of the first, and the sheet that the second was answered
 /// after it; and the sheet where there was no deed.
@@ -90,18 +87,6 @@ fn add(
     Ok(())
 }
 
-// What a new machine finds wrong with a history.
-fn check(
-    alloc: Global,
-    township: Township,
-    history: &[Outcome],
-) -> Result<Option<Disagreement>, AllocError> {
-    match Plain::new(alloc, &[township])? {
-        Some(mut machine) => machine.check(history),
-        None => Err(AllocError),
-    }
-}
-
 // The records of a machine at which the first examiner sells a section, if asked to, and the second is shown it.
 fn ask(
     alloc: Global,
@@ -121,17 +106,14 @@ fn ask(
     Ok(records)
 }
 
-// The same of a new machine; none where it doesn't open.
+// The same of a new machine.
 fn records_of(
     alloc: Global,
     township: Township,
     section: Section,
     sells: bool,
 ) -> Result<Vec<Record>, AllocError> {
-    match Plain::new(alloc, &[township])? {
-        Some(mut machine) => ask(alloc, &mut machine, section, sells),
-        None => Ok(Vec::new(alloc)),
-    }
+    ask(alloc, &mut Plain::new(alloc, &[township])?, section, sells)
 }
 
 impl Doctored {
@@ -169,7 +151,7 @@ impl Doctored {
     fn check_one(&self, place: u64, record: Option<&Record>) -> Found {
         let mut history = Vec::new(self.alloc);
         add(self.alloc, &mut history, place, record)?;
-        check(self.alloc, self.township, history.as_slice())
+        check(self.alloc, &[self.township], history.as_slice())
     }
 
     // The same of two.
@@ -183,7 +165,7 @@ impl Doctored {
         let mut history = Vec::new(self.alloc);
         add(self.alloc, &mut history, first, record)?;
         add(self.alloc, &mut history, second, other)?;
-        check(self.alloc, self.township, history.as_slice())
+        check(self.alloc, &[self.township], history.as_slice())
     }
 
     /// The deed, and the sheet after it.

@@ -19,11 +19,21 @@ pub enum Disagreement {
     Place(u64),
 }
 
+/// Where a history and the plain machine disagree first, if they do.
+pub type Found = Result<Option<Disagreement>, AllocError>;
+
 /// A plain machine.
-#[derive(Drop)]
 pub struct Plain {
     alloc: Global,
     desk: Desk<CellStore, RowLocks>,
+}
+
+// By hand, so that whoever lets one go sees one call.
+impl Drop for Plain {
+    fn drop(self) {
+        let Plain { alloc: _, desk } = self;
+        drop(desk);
+    }
 }
 
 impl Display for Disagreement {
@@ -42,13 +52,13 @@ fn is_same(alloc: Global, step: &Step, answer: Answer) -> Result<bool, AllocErro
 }
 
 impl Plain {
-    /// A machine that has run nothing; `None` where no desk opens for these townships.
-    pub fn new(alloc: Global, townships: &[Township]) -> Result<Option<Plain>, AllocError> {
+    /// A machine that has run nothing; an error also where no desk opens for these townships.
+    pub fn new(alloc: Global, townships: &[Township]) -> Result<Plain, AllocError> {
         if !may_open(PARTIES, townships) {
-            return Ok(None);
+            return Err(AllocError);
         }
         let desk = Desk::open(alloc, PARTIES, townships)?;
-        Ok(Some(Plain { alloc, desk }))
+        Ok(Plain { alloc, desk })
     }
 
     /// Serves a request.
@@ -88,7 +98,7 @@ impl Plain {
     }
 
     // Commits the transaction at a place.
-    fn commit(&mut self, place: u64, examiner: u32) -> Result<Option<Disagreement>, AllocError> {
+    fn commit(&mut self, place: u64, examiner: u32) -> Found {
         match self.desk.serve(Request::Commit(examiner)) {
             Reply::Committed(told) if told == place => Ok(None),
             Reply::Memory => Err(AllocError),
@@ -97,7 +107,7 @@ impl Plain {
     }
 
     // Runs the transaction at a place.
-    fn run(&mut self, place: u64, record: &Record) -> Result<Option<Disagreement>, AllocError> {
+    fn run(&mut self, place: u64, record: &Record) -> Found {
         self.desk.serve(Request::Begin(record.examiner));
         match self.first_step(record)? {
             Some(step) => Ok(Some(Disagreement::Step(place, step))),
@@ -105,8 +115,8 @@ impl Plain {
         }
     }
 
-    /// Runs the transactions of a history, each at its place from 1, and tells the first disagreement.
-    pub fn check(&mut self, history: &[Outcome]) -> Result<Option<Disagreement>, AllocError> {
+    // Runs the transactions of a history, each at its place from 1, and tells the first disagreement.
+    fn check(&mut self, history: &[Outcome]) -> Found {
         for index in 0..history.len() {
             let place = (index as u64).saturating_add(1);
             let Some(outcome) = history.iter().find(|outcome| outcome.place == place) else {
@@ -119,4 +129,9 @@ impl Plain {
         }
         Ok(None)
     }
+}
+
+/// Runs a history on a new machine.
+pub fn check(alloc: Global, townships: &[Township], history: &[Outcome]) -> Found {
+    Plain::new(alloc, townships)?.check(history)
 }

@@ -5,7 +5,7 @@ ghost use Rattle.title_trace.specs.Due.{MayOpen};
 ghost use Rattle.title_office.specs.{Offices.{most_seats}, Workers.{examiners_of, seat_examiners}};
 
 use crate::gate::Yielding;
-use crate::plain::{Disagreement, Plain};
+use crate::plain::{Disagreement, Found, check};
 use crate::scripts::{count_calls, script};
 use std::alloc::{AllocError, Global};
 use std::marker::Brand;
@@ -121,23 +121,7 @@ fn history_of<B: Room>(alloc: Global, worked: Vec<Worked<B>>) -> Result<Vec<Outc
     Ok(history)
 }
 
-// What a new plain machine finds wrong with a history.
-fn check(
-    alloc: Global,
-    townships: &[Township],
-    history: &[Outcome],
-) -> Result<Option<Disagreement>, AllocError> {
-    match Plain::new(alloc, townships)? {
-        Some(mut machine) => machine.check(history),
-        None => Err(AllocError),
-    }
-}
-
-fn check_worked<B: Room>(
-    alloc: Global,
-    townships: &[Township],
-    worked: Vec<Worked<B>>,
-) -> Result<Option<Disagreement>, AllocError> {
+fn check_worked<B: Room>(alloc: Global, townships: &[Township], worked: Vec<Worked<B>>) -> Found {
     let history = history_of(alloc, worked)?;
     check(alloc, townships, history.as_slice())
 }

@@ -1,28 +1,22 @@
 -- A batch that is put into a plant's file, and what a crash leaves meanwhile.
-use Rattle.std.{proofs.{Common.{◌≡◌, ◌≤◌, ◌<◌, ◌^◌, ℕ, Bool, true, List, length}, lemmas.List.{length-append}}, specs.Global.{Vec}}
-use Rattle.std.proofs.Common.{Option, Some, None, IfSome, Err, refl, sym, ap, subst, arith, inl, inr, ⊎_elim}
+use Rattle.std.proofs.{Common.{◌≡◌, ◌≤◌, ◌<◌, ◌^◌, ℕ, Bool, true, List, length}, lemmas.List.{length-append, length-map}}
+use Rattle.std.proofs.Common.{Option, Err, refl, sym, ap, subst, arith, inl, inr, ⊎_elim}
 use Rattle.title_land.specs.Depth.{depth}
 use Rattle.title_chain.specs.Alone.{most_parties}
 use Rattle.title_trace.specs.{Trace.{committed}, Due.{most_townships}, Serial.{IdleHaveNoSteps}}
 use Rattle.title_disk.specs.{Crashes.{LeavesOnly, Only}, Laws.Moments.{started, weakened}}
-use Rattle.title_journal.specs.{declared.fault.PutFault.{PutFault}, Blocks.{IsBlock}, Rest.{StandsAlike}}
+use Rattle.title_journal.specs.{declared.fault.PutFault.{PutFault}, Rest.{StandsAlike}}
 use Rattle.title_journal.specs.declared.fault.PutFault.TheVariants as put
 use Rattle.title_plan.specs.{Lands.{land_in}, Townships.{each_once}}
-use Rattle.title_standing.specs.StandingLaws.{KeptAreSerial, ReplayedAreCommitted}
+use Rattle.title_standing.specs.{Standing.{kept}, StandingLaws.{KeptAreSerial, ReplayedAreCommitted}}
 use Rattle.title_spelling.specs.Lands.{kept_land_in}
-use Rattle.title_daybook.specs.{AddedLaws.{CanBeWritten}, Standing.{Standing}}
+use Rattle.title_daybook.specs.AddedLaws.{CanBeWritten}
 use Rattle.title_counter.specs.{Counters.{Counter}, Sessions.{IsSound}}
-use Rattle.title_lasting.specs.{Faults.{of_put}, Kept.{IsWithOrWithout, text_in}, Made.{Adds}}
+use Rattle.title_lasting.specs.{Faults.{of_put}, Kept.{IsWithOrWithout}, Made.{Adds}}
 use Rattle.title_lasting.specs.Laws.{GoingOn.{commits_more}, FineBooks.{IsWritten, stands_written}, FineRows.{LandsHaveCells}}
 use Rattle.title_kept_desk.specs.{declared.mark.Mark.{Mark}, Sittings.{ComesTo, HasAt, HasAtEither, IsKeptTo, Now, opening_on, stands_at}}
 use Rattle.title_kept_desk.proofs.BatchMade.{has_still, has_then, kept_serial, opens_fine, writable}
 use Rattle.title_kept_desk.proofs.FineCounters.{Fares, GoesOnFrom, answers_fare, on_from}
-
--- what is added is a block
-pub block_is : (block : Option (Vec ℕ)) (before after : Standing) → Adds (text_in block) before after
-    → IfSome block (λ text. IsBlock text.items)
-block_is None before after adds = tt
-block_is (Some text) before after adds = adds.0
 
 -- ---- from the one counter to the other
 
@@ -55,10 +49,17 @@ no_less_townships c d on n is = omega (arith, is, ap length on.townships_are, le
 pub no_less_names : (c d : Counter) → GoesOnFrom c d → (n : ℕ) → n ≡ length c.names → n ≤ length d.names
 no_less_names c d on n is = omega (arith, is, ap length on.names_are, length-append c.names on.names)
 
-pub no_less_records : (c d : Counter) → GoesOnFrom c d → (n : ℕ) → n ≡ length (committed c.trace) → n ≤ length (committed d.trace)
+pub no_less_records : (c d : Counter) → GoesOnFrom c d → (n : ℕ) → n ≡ length (stands_at c).records → n ≤ length (committed d.trace)
 no_less_records c d on n is =
     let more = commits_more on.calls c.trace in
-    omega (arith, is, ap (λ t. length (committed t)) on.trace_is, ap length more.1, length-append more.0 (committed c.trace))
+    omega (
+      arith,
+      is,
+      length-map (committed c.trace) kept,
+      ap (λ t. length (committed t)) on.trace_is,
+      ap length more.1,
+      length-append more.0 (committed c.trace),
+    )
 
 -- ---- what a crash leaves
 

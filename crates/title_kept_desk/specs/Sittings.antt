@@ -9,7 +9,7 @@ use Rattle.title_report.specs.Replies.{end_row}
 use Rattle.title_standing.specs.Standing.{kept, replayed}
 use Rattle.title_daybook.specs.{Files.{IsPlant, standing_in}, Standing.{Standing}}
 use Rattle.title_counter.specs.{Counters.{Counter}, Sessions.{Answers, Ends, IsSound}}
-use Rattle.title_lasting.specs.{declared.fault.LastingFault.{LastingFault}, Lastings.{Begins}}
+use Rattle.title_lasting.specs.{declared.fault.LastingFault.{LastingFault}, Lastings.{Begins}, Made.{HasStood}}
 use Rattle.title_kept_desk.specs.declared.mark.Mark.{Mark}
 use Rattle.title_lasting.specs.declared.fault.LastingFault.TheVariants as fault
 
@@ -80,9 +80,7 @@ module _ {D : Type 0} (seen : D → List ℕ) (may_leave : D → List ℕ → Ty
   pub record IsUpTo (disk : D) (mark : Mark) (c : Counter) : Type 0 where
     pub rest : IsAtRest seen may_leave has_failed disk mark.gate.offset
     pub stands : HasAt c (seen disk)
-    pub townships : mark.townships ≡ length c.townships
-    pub parties : mark.parties ≡ length c.names
-    pub records : mark.records ≡ length (committed c.trace)
+    pub so_much : HasStood mark.stood (stands_at c)
 
   -- what a crash may leave now has P
   abbrev pub Now : D → (List ℕ → Type 0) → Type 0

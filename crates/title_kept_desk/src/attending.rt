@@ -12,7 +12,7 @@ use crate::mark::Mark;
 use crate::sitting::{put_last, sit_batch, sit_rest};
 use std::alloc::Global;
 use title_counter::{Clerk, GIVEN_LIMIT, LineStart};
-use title_daybook::Standing;
+use title_daybook::{Standing, Stood};
 use title_device::{Sink, Source};
 use title_disk::Disk;
 use title_lasting::{Ended, LastingFault, Opened, open};
@@ -121,9 +121,11 @@ fn attend_opened<D: Disk, R: Source, W: Sink>(
     drop(deeds);
     let mut mark = Mark {
         gate,
-        townships: townships.len(),
-        parties: parties.len(),
-        records,
+        stood: Stood {
+            townships: townships.len(),
+            parties: parties.len(),
+            records: records as u64,
+        },
     };
     let shut = any_stand(records);
     let declared = Declared { townships, parties };

@@ -1,25 +1,24 @@
 -- Rows name declared parties alone. So what is answered of an examiner's transactions is the same where there is room for more parties,
 -- and what is committed of them there are outcomes of them among the declared ones.
-use Rattle.std.proofs.Common.{◌≡◌, ◌∙◌, ◌≤◌, ◌<◌, ◌&&◌, ◌||◌, ◌==◌, ℕ, zero, suc, Bool, true, false, not, cond, is_some, Option, Some}
+use Rattle.std.proofs.Common.{◌≡◌, ◌∙◌, ◌≤◌, ◌<◌, ◌&&◌, ◌||◌, ℕ, zero, suc, Bool, false, not, cond, is_some, Option, Some}
 use Rattle.std.proofs.{Common.{inl, inr, List, [], ◌∷◌, length, filter, take, refl, sym, ap, ap₂, arith}, lemmas.Bool.{lt-leb}}
 use Rattle.std.specs.List.{AllByRecursion}
+use Rattle.title_store.specs.Laws.Each.{each_from}
 use Rattle.title_land.specs.{declared.survey.Township.{Township}, Lands.{is_in_plant}}
 use Rattle.title_instrument.specs.{declared.{instrument.Instrument.{Instrument}, parts.Cause.{Cause}}, Parties.{grantee_of, grantor_of}}
 use Rattle.title_instrument.specs.declared.parts.Cause.TheVariants.{Party, SameParty, NoEstate, Reservation}
 use Rattle.title_instrument.specs.Check.{first_cause, first_of_causes, holds}
 use Rattle.title_chain.specs.{declared.{ask.Ask.{Ask}, record.Record.{Record}}, Asks.{tract_of}}
 use Rattle.title_chain.specs.declared.ask.Ask.TheVariants as ask
-use Rattle.title_trace.specs.{declared.call.Request.{Request}, Trace.{examiner_of}, Due.{Setting, most_steps}}
-use Rattle.title_trace.specs.declared.call.Request.TheVariants as request
+use Rattle.title_trace.specs.Due.{Setting, most_steps}
 use Rattle.title_settle.specs.declared.outcome.Outcome.{Outcome}
 use Rattle.title_turns.specs.Dealt.{Dealt}
 use Rattle.title_office.specs.Transactions.{AreOutcomesOf, AreRunsOf, is_allowed}
 use Rattle.title_plan.specs.declared.line.Line.{Line}
-use Rattle.title_plan.specs.declared.line.Line.TheVariants as line
-use Rattle.title_dealing.specs.Dealing.{Hand, hand_of, transactions_of, with_request}
-use Rattle.title_spelling.specs.Posts.{IsExaminer}
+use Rattle.title_dealing.specs.Dealing.{transactions_of}
 use Rattle.title_day.specs.{declared.tally.Tally.{Tally}, OfficeRecords.{AreMadeOf, scripts_in}}
-use Rattle.title_lasting.specs.Laws.{FineScripts.{FineAsk, FineStep}, FineTraces.{FineRequest}}
+use Rattle.title_lasting.specs.Laws.FineScripts.{FineAsk, FineStep}
+use Rattle.title_kept_office.proofs.RunsKept.{FineDealt, fine_dealt}
 
 module _ (names : List (List ℕ)) (townships : List Township) (most : ℕ) (few : length names ≤ most) where
   -- a plant of the declared parties, and one with room for more
@@ -57,40 +56,13 @@ module _ (names : List (List ℕ)) (townships : List Township) (most : ℕ) (few
   same_asks (a ∷ asks) all =
       ap₂ (λ (b : Bool) (rest : List Ask). cond b (a ∷ rest) rest) all.0 (same_asks asks all.1)
 
-  -- ---- transactions
-
-  abbrev AllSame : List Dealt → Type 0
-  AllSame transactions = AllByRecursion (λ t. AllByRecursion Same t.asks) transactions
-
-  abbrev SameHand : Hand → Type 0
-  SameHand h = AllByRecursion Same h.asks × AllSame h.later
-
-  one_of : (b : Bool) (x y : Hand) → SameHand x → SameHand y → SameHand (cond b x y)
-  one_of true x y is other = is
-  one_of false x y is other = other
-
-  same_request : (q : Request) (h : Hand) → FineRequest IsExaminer (FineAsk names) q → SameHand h → SameHand (with_request q h)
-  same_request (request.Begin e) h fine same = (tt, same)
-  same_request (request.Step e a) h fine same = ((same_ask e a fine.1, same.0), same.1)
-  same_request (request.Commit e) h fine same = (tt, same.1)
-  same_request (request.Abort e) h fine same = (tt, same.1)
-
-  same_hand : (e : ℕ) (lines : List Line) → AllByRecursion (FineStep names) lines → SameHand (hand_of e lines)
-  same_hand e [] fine = (tt, tt)
-  same_hand e (line.Asks q ∷ rest) fine =
-      let behind = same_hand e rest fine.1 in
-      one_of (examiner_of q == e) (with_request q (hand_of e rest)) (hand_of e rest)
-      (same_request q (hand_of e rest) fine.0 behind) behind
-  same_hand e (line.Alone f a ∷ rest) fine = same_hand e rest fine.1
-  same_hand e (line.Described f why ∷ rest) fine = same_hand e rest fine.1
-
   -- ---- outcomes
 
-  outcomes_too : (e : ℕ) (transactions : List Dealt) (outcomes : List Outcome) → AllSame transactions
+  outcomes_too : (e : ℕ) (transactions : List Dealt) (outcomes : List Outcome) → AllByRecursion (FineDealt names e) transactions
       → AreOutcomesOf wide e transactions outcomes → AreOutcomesOf narrow e transactions outcomes
-  outcomes_too e [] outcomes same are = are
-  outcomes_too e (t ∷ rest) outcomes same (inl none) = inl (outcomes_too e rest outcomes same.1 none)
-  outcomes_too e (t ∷ rest) outcomes same (inr some) =
+  outcomes_too e [] outcomes fine are = are
+  outcomes_too e (t ∷ rest) outcomes fine (inl none) = inl (outcomes_too e rest outcomes fine.1 none)
+  outcomes_too e (t ∷ rest) outcomes fine (inr some) =
       let own = some.3 in
       inr (
         some.0,
@@ -99,9 +71,10 @@ module _ (names : List (List ℕ)) (townships : List Township) (most : ℕ) (few
         record {
           commits = own.commits;
           examiner = own.examiner;
-          asks = own.asks ∙ sym (ap (take most_steps) (same_asks t.asks same.0));
+          asks = own.asks ∙ sym (ap (take most_steps)
+              (same_asks t.asks (each_from (FineAsk names e) Same t.asks (same_ask e) fine.0.1)));
         },
-        outcomes_too e rest some.1 same.1 some.4,
+        outcomes_too e rest some.1 fine.1 some.4,
       )
 
   runs_too : (lines : List Line) → AllByRecursion (FineStep names) lines → (e number : ℕ) (runs : List (List Outcome))
@@ -111,7 +84,7 @@ module _ (names : List (List ℕ)) (townships : List Township) (most : ℕ) (few
   runs_too lines fine e (suc number) [] are = absurd are
   runs_too lines fine e (suc number) (run ∷ runs) are = (
     record {
-      outcomes_are = outcomes_too e (transactions_of lines e) run (same_hand e lines fine).1 are.0.outcomes_are;
+      outcomes_are = outcomes_too e (transactions_of lines e) run (fine_dealt names e lines fine) are.0.outcomes_are;
       in_order = are.0.in_order;
     },
     runs_too lines fine (suc e) number runs are.1,

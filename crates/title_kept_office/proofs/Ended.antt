@@ -3,9 +3,7 @@ use Rattle.std.{proofs.Common.{◌≡◌, Result, Ok, Err, IfErr, sym, subst}, s
 use Rattle.title_script.specs.declared.fault.RunFault.TheVariants as run
 use Rattle.title_day.specs.{declared.office_fault.OfficeFault.{OfficeFault}, OfficeDays.{IsOfficeTrouble}}
 use Rattle.title_day.specs.declared.office_fault.OfficeFault.TheVariants as office
-use Rattle.title_lasting.specs.declared.writable.Unwritten.{Unwritten}
-use Rattle.title_lasting.specs.declared.writable.Unwritten.TheVariants as unwritten
-use Rattle.title_kept_office.specs.{declared.fault.KeptOfficeFault.{KeptOfficeFault}, Faults.{of_office, of_unwritten}}
+use Rattle.title_kept_office.specs.{declared.fault.KeptOfficeFault.{KeptOfficeFault}, Faults.{of_office}}
 use Rattle.title_kept_office.specs.OfficeDays.{IsOwnTrouble}
 
 pub ended_by : {T : Type 0} (P : KeptOfficeFault → Type 0) (why : KeptOfficeFault) (r : Result T KeptOfficeFault)
@@ -23,7 +21,3 @@ office_trouble (office.Run run.Write) is = absurd is
 office_trouble (office.Run run.Memory) is = tt
 office_trouble (office.Worker why) is = tt
 office_trouble (office.Unsettled why) is = tt
-
-pub unwritten_trouble : (e : Unwritten) → IsOwnTrouble (of_unwritten e)
-unwritten_trouble (unwritten.Record place) = tt
-unwritten_trouble unwritten.Memory = tt

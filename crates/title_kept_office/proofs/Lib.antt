@@ -1,4 +1,5 @@
 mod Ended
+mod RunsKept
 mod DeclaredParties
 mod DaysMade
 mod OfficeEnds

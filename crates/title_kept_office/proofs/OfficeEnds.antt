@@ -1,17 +1,17 @@
 -- How a day of an office on a plant's file ends.
 use Rattle.std.proofs.Common.{◌≡◌, ◌∙◌, ◌≢◌, ◌⊎◌, ℕ, List, Bool, true, Option, Some, None, IfSome, Ok, Err, inl, inr, ⊎_elim}
-use Rattle.std.{proofs.Common.{refl, sym, ap, subst, length, arith}, specs.{Io.KnownBytes.{Appends, IsAtEnd, Keeps}, Global.{Vec}}}
+use Rattle.std.{proofs.Common.{refl, sym, ap, subst, length, arith}, specs.Io.KnownBytes.{Appends, IsAtEnd, Keeps}}
 use Rattle.title_disk.specs.{Crashes.{LeavesOnly, Only}, Laws.Moments.{joined, weakened}}
-use Rattle.title_journal.specs.{Blocks.{IsBlock, blocks_in}, Rest.{StandsAlike}, declared.fault.PutFault.{PutFault}}
+use Rattle.title_journal.specs.{Blocks.{blocks_in}, Rest.{StandsAlike}, declared.fault.PutFault.{PutFault}}
 use Rattle.title_journal.specs.declared.fault.PutFault.TheVariants as put
 use Rattle.title_plan.specs.declared.fault.ScriptFault.{ScriptFault}
 use Rattle.title_plan.specs.declared.line.Schedule.TheVariants as schedule
 use Rattle.title_script.specs.Runs.{IsReadWithin}
 use Rattle.title_daybook.specs.{Files.{IsPlant, standing_after, standing_in}, Standing.{Standing}}
 use Rattle.title_day.specs.Closings.{closed_text}
-use Rattle.title_lasting.specs.{Days.{declared_in}, Faults.{of_put}, Kept.{IsWithOrWithout, text_in, with_text}, Made.{Adds, IsAtFault}}
+use Rattle.title_lasting.specs.{Days.{declared_in}, Faults.{of_put}, Kept.{IsWithOrWithout, text_in, with_text}, Made.{IsAtFault}}
 use Rattle.title_lasting.specs.{Lastings.{Begins, IsExpected, Refuses, Stays}, Opened.{IsUnopened, LeavesUnopened}, Openings.{StandsAs}}
-use Rattle.title_lasting.specs.{declared.fault.LastingFault.{LastingFault}, Laws.Plants.{adds_stand}}
+use Rattle.title_lasting.specs.{declared.fault.LastingFault.{LastingFault}, Laws.Plants.{adds_stand, alike_stands}}
 use Rattle.title_lasting.specs.declared.fault.LastingFault.TheVariants as fault
 use Rattle.title_kept_office.specs.declared.fault.KeptOfficeFault.{KeptOfficeFault, TheVariants.{Kept, Worker, Unsettled}}
 use Rattle.title_kept_office.specs.{declared.making.Made.{Made}, OfficeDays.{stands_after}}
@@ -22,20 +22,10 @@ keeps_itself : (known : Option (List ℕ)) → Keeps known known
 keeps_itself None = tt
 keeps_itself (Some bytes) = refl
 
--- what a day adds is a block
-pub block_is : (block : Option (Vec ℕ)) (before after : Standing) → Adds (text_in block) before after
-    → IfSome block (λ text. IsBlock text.items)
-block_is None before after adds = tt
-block_is (Some text) before after adds = adds.0
-
 -- an expected place is the one that is said to be the last
 pub expected_is : (after : Option ℕ) (last n : ℕ) → last ≡ n → IfSome after (λ place. place ≡ last) → IfSome after (λ place. place ≡ n)
 expected_is None last n is same = tt
 expected_is (Some place) last n is same = same ∙ is
-
--- where the same blocks stand, the same stands
-pub alike_stands : (old c : List ℕ) → StandsAlike old c → StandsAs old c
-alike_stands old c same = ap standing_after same
 
 module _ {D : Type 0} (seen : D → List ℕ) (may_leave : D → List ℕ → Type 0) (has_failed : D → Bool) (moment : D → ℕ)
     (left_since : D → ℕ → List ℕ → Type 0) (number : ℕ) (after : Option ℕ) (old mid : D) (rest : CameToRest seen moment left_since old mid)

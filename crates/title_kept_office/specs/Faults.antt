@@ -1,11 +1,8 @@
 -- Faults of offices' days on a plant's file that come of what is below.
 use Rattle.title_script.specs.declared.fault.RunFault.TheVariants as run
-use Rattle.title_settle.specs.declared.outcome.Unsettled.TheVariants as unsettled
 use Rattle.title_day.specs.declared.office_fault.OfficeFault.{OfficeFault}
 use Rattle.title_day.specs.declared.office_fault.OfficeFault.TheVariants as office
 use Rattle.title_lasting.specs.declared.fault.LastingFault.TheVariants as fault
-use Rattle.title_lasting.specs.declared.writable.Unwritten.{Unwritten}
-use Rattle.title_lasting.specs.declared.writable.Unwritten.TheVariants as unwritten
 use Rattle.title_kept_office.specs.declared.fault.KeptOfficeFault.{KeptOfficeFault, TheVariants.{Kept, Worker, Unsettled}}
 
 -- the office's day isn't kept
@@ -18,8 +15,3 @@ of_office (office.Run run.Write) = Kept fault.Write
 of_office (office.Run run.Memory) = Kept fault.Memory
 of_office (office.Worker why) = Worker why
 of_office (office.Unsettled why) = Unsettled why
-
--- its records can't be written
-abbrev pub of_unwritten : Unwritten → KeptOfficeFault
-of_unwritten (unwritten.Record place) = Unsettled (unsettled.Different place)
-of_unwritten unwritten.Memory = Kept fault.Memory

@@ -7,8 +7,8 @@ use Rattle.title_plan.specs.declared.line.Schedule.TheVariants as schedule
 use Rattle.title_standing.specs.Standing.{kept}
 use Rattle.title_daybook.specs.{Files.{IsPlant}, Standing.{Standing}}
 use Rattle.title_day.specs.{declared.tally.Tally.{Tally}, Closings.{closed_text}, DaysOn.{IsDayOn, office_text_on}}
-use Rattle.title_lasting.specs.{Days.{declared_in}, Footings.{IsNew, stands_on}, Kept.{text_in}, Lastings.{IsExpected, IsLeft}}
-use Rattle.title_lasting.specs.Made.{IsAsked, IsUnmade}
+use Rattle.title_lasting.specs.{Days.{declared_in}, Footings.{stands_on}, Kept.{text_in}, Lastings.{IsExpected, IsLeft}}
+use Rattle.title_lasting.specs.Made.{IsAsked, IsNew, IsUnmade}
 use Rattle.title_lasting.specs.declared.fault.LastingFault.TheVariants as fault
 use Rattle.title_kept_office.specs.declared.fault.KeptOfficeFault.{KeptOfficeFault, TheVariants.{Kept, Worker, Unsettled}}
 use Rattle.title_kept_office.specs.declared.making.Made.{Made}
@@ -65,7 +65,7 @@ pub record CanServe (number : ℕ) (before : Standing) (left : Option (List ℕ)
   pub is_asked : IsAsked (schedule.Office number) (declared_in before) left asked
   pub joined : IsSerial depth asked.townships before.records
 
--- the faults of an office that has been opened: want of memory, a worker's fault, or that it can't be settled or written
+-- the faults of an office that has been opened: want of memory, a worker's fault, or that it can't be settled
 abbrev pub IsOwnTrouble : KeptOfficeFault → Type 0
 IsOwnTrouble (Kept fault.Memory) = Unit {0}
 IsOwnTrouble (Kept _) = ⊥

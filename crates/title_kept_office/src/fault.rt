@@ -3,7 +3,7 @@
 ghost use Rattle.std.specs.Prelude.{◌≡◌};
 ghost use Rattle.title_lasting.specs.Faults.{of_put};
 ghost use Rattle.title_lasting.specs.declared.fault.LastingFault.TheVariants as fault;
-ghost use Rattle.title_kept_office.specs.Faults.{of_office, of_unwritten};
+ghost use Rattle.title_kept_office.specs.Faults.{of_office};
 ghost use Rattle.title_kept_office.specs.declared.fault.KeptOfficeFault.TheVariants as kept;
 
 use std::alloc::AllocError;
@@ -11,7 +11,7 @@ use thiserror::Error;
 use title_day::OfficeFault;
 use title_device::Failed;
 use title_journal::PutFault;
-use title_lasting::{LastingFault, Unwritten};
+use title_lasting::LastingFault;
 use title_office::{Fault, Unsettled};
 use title_script::RunFault;
 
@@ -24,7 +24,7 @@ pub enum KeptOfficeFault {
     /// A worker has ended with a fault, that of the least examiner.
     #[error("{0}")]
     Worker(Fault),
-    /// The office can't be settled, or a record of it can't be written, as no script has asked for it.
+    /// The office can't be settled.
     #[error("{0}")]
     Unsettled(Unsettled),
 }
@@ -50,17 +50,6 @@ impl From<OfficeFault> for KeptOfficeFault {
             OfficeFault::Run(RunFault::Memory) => KeptOfficeFault::Kept(LastingFault::Memory),
             OfficeFault::Worker(why) => KeptOfficeFault::Worker(why),
             OfficeFault::Unsettled(why) => KeptOfficeFault::Unsettled(why),
-        }
-    }
-}
-
-impl From<Unwritten> for KeptOfficeFault {
-    ghost from_gives = { λ failed e. e ≡ of_unwritten failed };
-
-    fn from(failed: Unwritten) -> KeptOfficeFault {
-        match failed {
-            Unwritten::Record(place) => KeptOfficeFault::Unsettled(Unsettled::Different(place)),
-            Unwritten::Memory => KeptOfficeFault::Kept(LastingFault::Memory),
         }
     }
 }

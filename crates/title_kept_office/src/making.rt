@@ -19,12 +19,13 @@ use std::sync::Wait;
 use std::thread::Threads;
 use title_day::laws::dealt_scripts_fit;
 use title_day::{Closing, close_office, run_day_on};
+use title_daybook::laws::{added_reads_back, kept_are_written};
 use title_daybook::{Standing, Stood};
 use title_dealing::laws::offices_keep_turns_onto;
 use title_dealing::{OfficeScript, deal_plan};
 use title_desk::Desk;
 use title_device::Source;
-use title_lasting::{Footing, day_block, lay_footing};
+use title_lasting::{Footing, added_block, lay_footing};
 use title_lock::NodeLocks;
 use title_plan::laws::scripts_begin;
 use title_plan::{Plan, Schedule};
@@ -39,7 +40,7 @@ pub(crate) struct Made {
     pub block: Option<Vec<u8>>,
 }
 
-// Runs what a plan asks for on a desk that has served what stood, so many transactions, and puts the block together.
+// Runs what a plan asks for on a desk that has served what stood, and puts the block together.
 fn run_on<T: Threads + Wait + Sync>(
     rt: &T,
     alloc: Global,
@@ -48,7 +49,6 @@ fn run_on<T: Threads + Wait + Sync>(
     plan: Plan,
     desk: Box<Desk<TreeStore, NodeLocks>>,
     stood: Stood,
-    kept: usize,
 ) -> Result<Made, KeptOfficeFault>
     requires seats { examiners ≤ most_seats }
     requires asked { All (IsAskedBy examiners) plan.lines.items }
@@ -56,8 +56,7 @@ fn run_on<T: Threads + Wait + Sync>(
     requires plant { desk.value.setting.townships ≡ plan.townships.items }
     requires townships { stood.townships ≤ length plan.townships.items }
     requires parties { stood.parties ≤ index_set_len plan.parties }
-    requires stood { stood.records ≡ kept }
-    requires kept { length (committed desk.value.trace) ≡ kept }
+    requires records { length (committed desk.value.trace) ≡ stood.records }
     ensures run { IfOk result (IsRunOn examiners (asked_in plan) desk.value stood) }
     ensures why { IfErr result IsOwnTrouble }
 {
@@ -79,15 +78,14 @@ fn run_on<T: Threads + Wait + Sync>(
         scripts,
         tries,
     )?;
-    let records = day.records.as_slice();
-    let block = day_block(alloc, stood, listed, &parties, records, kept)?;
+    let block = added_block(alloc, stood, listed, &parties, day.records.as_slice())?;
     let closing = close_office(
         alloc,
         parties,
         listed,
         steps,
         day.tallies,
-        kept,
+        stood.records as usize,
         &day.records,
     )?;
     Ok(Made { closing, block })
@@ -117,6 +115,8 @@ pub(crate) fn make<T: Threads + Wait + Sync, R: Source>(
     offices_keep_turns_onto();
     replayed_records_are_committed();
     kept_records_are_serial();
+    added_reads_back();
+    kept_are_written();
     lands_have_cells();
     descriptions_stay();
     let begun = lay_footing(alloc, Schedule::Office(examiners), stands, desk, source)?;
@@ -124,8 +124,7 @@ pub(crate) fn make<T: Threads + Wait + Sync, R: Source>(
         plan,
         desk: served,
         stood,
-        kept,
     } = begun;
-    let made = run_on(rt, alloc, examiners, tries, plan, served, stood, kept)?;
+    let made = run_on(rt, alloc, examiners, tries, plan, served, stood)?;
     Ok(made)
 }

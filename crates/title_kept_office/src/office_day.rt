@@ -54,11 +54,11 @@ fn run_opened<T: Threads + Wait + Sync, D: Disk, R: Source, W: Sink>(
     let Opened {
         stands,
         desk,
-        gate,
+        mut gate,
         cut: _,
     } = opened;
     let made = make(rt, alloc, examiners, tries, stands, desk, source)?;
-    put_block(disk, gate, &made.block)?;
+    put_block(disk, &mut gate, &made.block)?;
     Ok(write_closing(sink, &made.closing)?)
 }
 

@@ -76,7 +76,7 @@ module _ (sched : Schedule) (file : List ℕ) (left left_after : Option (List �
         stands = stands_then sched file left before plant made is file_after now;
         durable = durable;
         any_moment = sides both;
-        quiet = λ resting same. unchanged (is.quiet (same ∙ is.stood));
+        quiet = λ resting same. unchanged (is.is_new.quiet (same ∙ is.stood));
         report = subst Told is.report told;
       }
 

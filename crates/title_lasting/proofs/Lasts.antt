@@ -34,8 +34,10 @@ module _ (sched : Schedule) (file : List ℕ) (left : Option (List ℕ)) (before
 
   -- a file in which what stood stands with the block is a plant of what stands after the day
   pub stands_then : (c : List ℕ) → blocks_in c ≡ with_text (text_in made.block) (blocks_in file) → IsPlant c (stands_after is.day)
-  stands_then c now =
-      (ap standing_after now ∙ adds_stand (text_in made.block) before (stands_after is.day) is.adds (blocks_in file) plant.0, is.serial)
+  stands_then c now = (
+    ap standing_after now ∙ adds_stand (text_in made.block) before (stands_after is.day) is.is_new.adds (blocks_in file) plant.0,
+    is.serial,
+  )
 
   pub stands_still : (c : List ℕ) → blocks_in c ≡ blocks_in file → IsPlant c is.day.before
   stands_still c now =

@@ -1,6 +1,5 @@
 mod Untold
 mod Refused
-mod DayMade
 mod DayServed
 mod Unmade
 mod Lasts
@@ -15,4 +14,3 @@ mod OtherRows
 mod LookScripts
 mod LooksServed
 mod LookEnds
-mod DayBlock

@@ -6,6 +6,7 @@ pub mod FineRows
 pub mod FineScripts
 pub mod FineBooks
 pub mod KeptNews
+pub mod Additions
 pub mod CellsSaid
 pub mod Plants
 pub mod Begun

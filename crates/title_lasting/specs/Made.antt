@@ -24,17 +24,29 @@ Adds (Some block) before after =
     IsBlock block
     × ((stood : Result (List (List ℕ)) ℕ) → standing_after stood ≡ Ok before → standing_after (with_block block stood) ≡ Ok after)
 
--- nothing is declared, and nothing committed
-abbrev pub IsNothingNew : Stood → Asked → (news : List Record) → Type 0
-IsNothingNew stood asked news = (length asked.townships ≡ stood.townships) × (length asked.names ≡ stood.parties) × (news ≡ [])
+-- so much stood
+pub record HasStood (stood : Stood) (before : Standing) : Type 0 where
+  pub townships : stood.townships ≡ length before.townships
+  pub names : stood.parties ≡ length before.names
+  pub records : stood.records ≡ length before.records
 
--- the block that adds to what stood what is declared and committed, the oldest first; none where nothing is new
-abbrev pub IsAddedBlock : Stood → Asked → (news : List Record) → Option (List ℕ) → Type 0
-IsAddedBlock stood asked news None = IsNothingNew stood asked news
-IsAddedBlock stood asked news (Some text) =
-    (IsNothingNew stood asked news → ⊥)
-    × (text ≡ text_of asked.names (rows_of (drop stood.townships asked.townships) (drop stood.parties asked.names) news
-    (stood.records + length news)))
+-- a block, or none, by which what stands after the day stands behind what stood; none where that is the same
+pub record IsNew (block : Option (List ℕ)) (before after : Standing) : Type 0 where
+  pub adds : Adds block before after
+  pub quiet : after ≡ before → block ≡ None
+
+-- behind what stood nothing is declared, and nothing committed; the oldest record is the first
+abbrev pub IsNothingNew : Stood → List Township → (names : List (List ℕ)) → List Record → Type 0
+IsNothingNew stood townships names records =
+    (length townships ≡ stood.townships) × (length names ≡ stood.parties) × (drop stood.records records ≡ [])
+
+-- the block that adds to what stood what is declared and committed behind it; none where nothing is new
+abbrev pub IsAddedBlock : Stood → List Township → (names : List (List ℕ)) → List Record → Option (List ℕ) → Type 0
+IsAddedBlock stood townships names records None = IsNothingNew stood townships names records
+IsAddedBlock stood townships names records (Some text) =
+    (IsNothingNew stood townships names records → ⊥)
+    × (text ≡ text_of names (rows_of (drop stood.townships townships) (drop stood.parties names) (drop stood.records records)
+    (stood.records + length (drop stood.records records))))
 
 -- what a desk comes to by a script's steps
 abbrev pub served_at : Books → Asked → List Call
@@ -45,7 +57,7 @@ pub record IsServedAt (desk : Books) (stood : Stood) (asked : Asked) (made : Mad
   pub report : served_text made.served ≡ report_onto desk.setting desk.trace asked
   pub headline :
       (content : Plant) × Headline desk.setting (served_at desk asked) content (committed (served_at desk asked))
-  pub block : IsAddedBlock stood asked (drop stood.records (reverse (committed (served_at desk asked)))) (text_in made.block)
+  pub block : IsAddedBlock stood asked.townships asked.names (reverse (committed (served_at desk asked))) (text_in made.block)
 
 -- the source's script made this day of what stood before: the report and the block are those of the day
 pub record IsMade (sched : Schedule) (before : Standing) (left : Option (List ℕ)) (made : Made) : Type 0 where
@@ -59,8 +71,7 @@ pub record IsMade (sched : Schedule) (before : Standing) (left : Option (List �
   pub headline : (content : Plant) × Headline (setting_on day) (evening day) content (committed (evening day))
   pub report : served_text made.served ≡ report_on_day day
   pub serial : IsSerial depth day.asked.townships (stands_after day).records
-  pub adds : Adds (text_in made.block) before (stands_after day)
-  pub quiet : stands_after day ≡ before → text_in made.block ≡ None
+  pub is_new : IsNew (text_in made.block) before (stands_after day)
 
 -- the source's script is read on top of what is declared, and asks for this
 pub record IsAsked (sched : Schedule) (before : Before) (left : Option (List ℕ)) (asked : Asked) : Type 0 where

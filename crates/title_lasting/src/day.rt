@@ -6,8 +6,8 @@ ghost use Rattle.title_journal.specs.Rest.{IsAtRest};
 ghost use Rattle.title_daybook.specs.{Books.{standing_of}, Files.{standing_in}};
 ghost use Rattle.title_lasting.specs.{Lastings.{Lasting}, Openings.{cut_in}, Replays.{HasServed}};
 
+use crate::adding::put_block;
 use crate::fault::LastingFault;
-use crate::keeping::put_block;
 use crate::opening::{Opened, open};
 use crate::serving::make;
 use std::alloc::Global;
@@ -59,11 +59,11 @@ fn run_opened<D: Disk, R: Source, W: Sink, V: Watch>(
     let Opened {
         stands,
         desk,
-        gate,
+        mut gate,
         cut: _,
     } = opened;
     let made = make(alloc, schedule, stands, desk, source, watch)?;
-    put_block(disk, gate, &made.block)?;
+    put_block(disk, &mut gate, &made.block)?;
     Ok(write_served(alloc, sink, &made.served)?)
 }
 

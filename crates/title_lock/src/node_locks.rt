@@ -37,12 +37,25 @@ pub(crate) enum Layout {
 /// while several have few, and each step goes through the list. They are spread over the nodes when more come, or one is refused that
 /// was held to many of them, and stay so until nobody has any: then each node in use has its holders and how many have each mode;
 /// the counts decide, and the holders tell the least examiner in the way.
-#[derive(Drop)]
 pub struct NodeLocks {
     alloc: Global,
     layout: Layout,
     listed: RowLocks,
     spread: SpreadLocks,
+}
+
+// By hand, so that whoever lets one go sees one call.
+impl Drop for NodeLocks {
+    fn drop(self) {
+        let NodeLocks {
+            alloc: _,
+            layout: _,
+            listed,
+            spread,
+        } = self;
+        drop(listed);
+        drop(spread);
+    }
 }
 
 impl Model for NodeLocks {

@@ -21,11 +21,23 @@ use title_land::{Node, Tract};
 /// Locks as a list of what was granted, the oldest first. Who is in the way is told by the cells of the tracts, with no
 /// mode; a mode is told by what each entry asks for. Each call goes through the whole list, and passes over what lies in
 /// another section.
-#[derive(Drop)]
 pub struct RowLocks {
     alloc: Global,
     rows: Vec<Row>,
     prepared: Option<Entry>,
+}
+
+// By hand, so that whoever lets one go sees one call.
+impl Drop for RowLocks {
+    fn drop(self) {
+        let RowLocks {
+            alloc: _,
+            rows,
+            prepared,
+        } = self;
+        drop(rows);
+        drop(prepared);
+    }
 }
 
 impl Model for RowLocks {

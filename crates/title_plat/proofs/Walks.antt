@@ -1,38 +1,61 @@
 -- Walks over rows and parts.
-use Rattle.std.{proofs.Common.{◌≡◌, ◌≤◌, ◌<◌, ◌+◌, ◌-◌, ◌++◌, ◌∙◌, ℕ, suc, List, [], ◌∷◌, length, take, drop}, specs.List.{All, flat_map}}
-use Rattle.std.proofs.{Common.{get_or, subst, sym, ap, ap₂, arith, add-one, take_all}, lemmas.Grind.{common_steps, flat_map-append}}
-use Rattle.std.proofs.{lemmas.List.{append-nil, take-append-drop, drop-take, Elements.{All-cons}}, Math.Seq.{drop-cons}}
-use Rattle.title_plat.specs.{declared.{parts.Part.{Part}, row.Row.{Row}}, Parts.{owners_of}}
+use Rattle.std.proofs.Common.{◌≡◌, ◌≤◌, ◌<◌, ◌+◌, ◌-◌, ◌∙◌, ℕ, suc, Bool, true, false, cond, List, [], ◌∷◌, length, take, drop}
+use Rattle.std.proofs.Common.{get_or, sym, ap, arith}
+use Rattle.std.proofs.lemmas.{Grind.{common_steps}, List.{drop-drop, drop_more, length-drop, Sums.{prefix_len-le-length}}}
+use Rattle.std.specs.List.{prefix_len}
+use Rattle.title_plat.specs.{declared.{parts.Part.{Part}, row.Row.{Row}}, Parts.{is_row_of, part_at, parts_behind, parts_from}}
 
--- a walk that has come to the end has seen all
-pub all_walked : {X : Type 0} (P : X → Type 0) (xs : List X) (i : ℕ) → length xs ≤ i → All P (take i xs) → All P xs
-all_walked P xs i done each = subst (All P) (take_all i xs done) each
+-- a part that ends elsewhere
+abbrev pub ending : Part → ℕ → Part
+ending part end = record part { end = end }
 
--- the front of a list, in two pieces
-pub front_more : {X : Type 0} (xs : List X) (i n : ℕ) → take (i + n) xs ≡ take i xs ++ take n (drop i xs)
-front_more xs i n = let h = take-append-drop i (take (i + n) xs) in let e = drop-take i n xs in grind (arith, common_steps, h, e)
+-- where a row is of the part or isn't, from what is known of the rows behind it
+run_more : (part : Part) (row : Row) (rows : List Row) (n : ℕ) (alike : Bool)
+    → parts_behind (ending part (part.end + 1)) rows ≡ ending part (part.end + 1 + n) ∷ parts_from (part.end + 1 + n) (drop n rows)
+    → cond alike (parts_behind (ending part (part.end + 1)) rows) (part ∷ parts_behind (part_at part.end row) rows)
+    ≡ ending part (part.end + cond alike (1 + n) 0)
+    ∷ parts_from (part.end + cond alike (1 + n) 0) (drop (cond alike (1 + n) 0) (row ∷ rows))
+run_more part row rows n true rest =
+    let ends : part.end + 1 + n ≡ part.end + (1 + n) = omega arith in
+    let count : suc n ≡ 1 + n = omega arith in
+    rest
+    ∙ ap (λ (k : ℕ). ending part k ∷ parts_from k (drop n rows)) ends
+    ∙ ap (λ (k : ℕ). ending part (part.end + (1 + n)) ∷ parts_from (part.end + (1 + n)) (drop k (row ∷ rows))) count
+run_more part row rows n false rest =
+    let ends : part.end ≡ part.end + 0 = omega arith in
+    ap (λ (k : ℕ). ending part k ∷ parts_from k (row ∷ rows)) ends
 
--- a row and those behind it that are like it
-pub run_more : {X : Type 0} (P : X → Type 0) (xs : List X) (first count : ℕ) (d : X) → first < length xs → P (get_or xs first d)
-    → All P (take count (drop (first + 1) xs)) → All P (take (first + 1 + count - first) (drop first xs))
-run_more P xs first count d inside here rest =
-    let n : first + 1 + count - first ≡ suc count = omega arith in
-    let e = drop-cons xs first d inside in
-    let behind : All P (take count (drop (suc first) xs)) = rw (← add-one) rest in
-    rw (n, e) (All-cons P (get_or xs first d) (take count (drop (suc first) xs)) here behind)
+-- a part takes the rows that are like it, and the others are those of the parts behind it
+run_then : (part : Part) (rows : List Row) → let n = prefix_len (is_row_of part.node part.estate) rows in
+    parts_behind part rows ≡ ending part (part.end + n) ∷ parts_from (part.end + n) (drop n rows)
+run_then part [] = let ends : part.end ≡ part.end + 0 = omega arith in ap (λ (k : ℕ). ending part k ∷ []) ends
+run_then part (row ∷ rows) = run_more part row rows _ _ (run_then (ending part (part.end + 1)) rows)
 
--- one part more has the rows up to its end
-pub parts_more : (rows : List Row) (parts new : List Part) (p : Part) (at : ℕ) → new ≡ parts ++ p ∷ []
-    → flat_map (owners_of rows) parts ≡ take at rows → p.first ≡ at → p.first < p.end → flat_map (owners_of rows) new ≡ take p.end rows
-parts_more rows parts new p at pushed so_far here some =
-    let front = front_more rows p.first (p.end - p.first) in
-    let n : p.first + (p.end - p.first) ≡ p.end = omega arith in
-    ap (flat_map (owners_of rows)) pushed
-    ∙ flat_map-append (owners_of rows) parts (p ∷ [])
-    ∙ ap₂ (λ (a b : List Row). a ++ b) (so_far ∙ ap (λ (k : ℕ). take k rows) (sym here)) (append-nil (owners_of rows p))
-    ∙ sym front
-    ∙ ap (λ (k : ℕ). take k rows) n
+-- the rows behind one, as the slice from there on has them
+abbrev pub behind : List Row → ℕ → List Row
+behind rows first = take (length rows - (first + 1)) (drop (first + 1) rows)
 
--- a list from an index on, cut where it ends
-pub rest_of : {X : Type 0} (xs : List X) (k : ℕ) → take (length xs - k) (drop k xs) ≡ drop k xs
-rest_of xs k = grind (arith, common_steps)
+-- they are the rest of the list
+rest_of : (rows : List Row) (first : ℕ) → behind rows first ≡ drop (first + 1) rows
+rest_of rows first = grind (arith, common_steps)
+
+-- those of them that are like it are rows of the sheet
+pub run_within : (rows : List Row) (like : Row → Bool) (first count : ℕ) → first < length rows
+    → count ≡ prefix_len like (behind rows first) → first + 1 + count ≤ length rows
+run_within rows like first count inside counted =
+    let fits = prefix_len-le-length like (behind rows first) in
+    let size = ap length (rest_of rows first) ∙ length-drop (first + 1) rows in
+    omega (arith, fits, size, counted, inside)
+
+-- the part that begins at a row, and the parts behind it
+pub part_then : (rows : List Row) (first count : ℕ) (row : Row) → first < length rows → row ≡ get_or rows first row
+    → count ≡ prefix_len (is_row_of row.node row.estate) (behind rows first) → parts_from first (drop first rows)
+    ≡ ending (part_at first row) (first + 1 + count) ∷ parts_from (first + 1 + count) (drop (first + 1 + count) rows)
+part_then rows first count row inside here counted =
+    let run : count ≡ prefix_len (is_row_of row.node row.estate) (drop (first + 1) rows) =
+    counted ∙ ap (prefix_len (is_row_of row.node row.estate)) (rest_of rows first) in
+    ap (parts_from first) (drop_more rows first row inside ∙ ap (λ (r : Row). r ∷ drop (first + 1) rows) (sym here))
+    ∙ run_then (part_at first row) (drop (first + 1) rows)
+    ∙ ap (λ (k : ℕ). ending (part_at first row) (first + 1 + k) ∷ parts_from (first + 1 + k) (drop k (drop (first + 1) rows))) (sym run)
+    ∙ ap (λ (left : List Row). ending (part_at first row) (first + 1 + count) ∷ parts_from (first + 1 + count) left)
+    (drop-drop count (first + 1) rows)

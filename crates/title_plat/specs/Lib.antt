@@ -1,7 +1,9 @@
 pub mod Sheets
 pub mod Squares
 pub mod Parts
+pub mod Drawn
 pub mod Once
 pub mod Townships
 pub mod NetAcres
 pub mod Escapes
+pub mod Laws

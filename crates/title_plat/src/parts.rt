@@ -1,10 +1,10 @@
 //! The parts of a sheet.
 
-ghost use Rattle.std.specs.Prelude.{◌≡◌, ◌≤◌, ◌<◌, All, IfOk, length, take, drop};
-ghost use Rattle.title_plat.specs.Parts.{ArePartsOf, IsPart, IsRowOf};
+ghost use Rattle.std.specs.Prelude.{◌≡◌, ◌≤◌, ◌<◌, ◌∷◌, IfOk, length, drop};
+ghost use Rattle.std.specs.List.{prefix_len};
+ghost use Rattle.title_plat.specs.Parts.{is_row_of, owners_of, parts_from, parts_of};
 
-use crate::row::Row;
-use crate::same::{same_estate, same_node};
+use crate::row::{Row, is_row_of, rows_between};
 use std::alloc::{AllocError, Global};
 use title_aliquot::Node;
 use title_instrument::Estate;
@@ -20,22 +20,20 @@ pub struct Part {
 
 // How many rows at the front are of this node and estate.
 fn run_length(rows: &[Row], node: &Node, estate: Estate) -> usize
-    ensures within { result ≤ length rows.now }
-    ensures alike { All (IsRowOf node.now estate) (take result rows.now) }
+    ensures run { result ≡ prefix_len (is_row_of node.now estate) rows.now }
 {
-    for (i, row) in rows.iter().enumerate() {
-        if !same_node(&row.node, node) || !same_estate(row.estate, estate) {
-            return i;
-        }
-    }
-    rows.len()
+    rows.iter()
+        .take_while(|row| is_row_of(row, node, estate))
+        .count()
 }
 
 // The part that begins at a row.
 fn part_at(rows: &[Row], first: usize) -> Part
     requires here { first < length rows.now }
-    ensures first { result.first ≡ first }
-    ensures part { IsPart rows.now result }
+    ensures some { first < result.end }
+    ensures within { result.end ≤ length rows.now }
+    ensures part { parts_from first (drop first rows.now)
+        ≡ result ∷ parts_from result.end (drop result.end rows.now) }
 {
     let row = &rows[first];
     let count = run_length(&rows[first + 1..], &row.node, row.estate);
@@ -47,9 +45,9 @@ fn part_at(rows: &[Row], first: usize) -> Part
     }
 }
 
-/// The parts of a sheet: runs of rows with one node and estate.
+/// The parts of a sheet: runs of rows with one node and estate, each as long as it can be.
 pub fn parts_of(alloc: Global, rows: &[Row]) -> Result<Vec<Part>, AllocError>
-    ensures parts { IfOk result (λ parts. ArePartsOf rows.now parts.items) }
+    ensures parts { IfOk result (λ parts. parts.items ≡ parts_of rows.now) }
 {
     let mut parts = Vec::new(alloc);
     let mut at = 0;
@@ -62,6 +60,8 @@ pub fn parts_of(alloc: Global, rows: &[Row]) -> Result<Vec<Part>, AllocError>
 }
 
 /// The rows of a part.
-pub fn owners_of<'a>(rows: &'a [Row], part: &Part) -> &'a [Row] {
-    rows.get(part.first..part.end).unwrap_or(&[])
+pub fn owners_of<'a>(rows: &'a [Row], part: &Part) -> &'a [Row]
+    ensures owners { result.now ≡ owners_of rows.now part.now }
+{
+    rows_between(rows, part.first, part.end)
 }

@@ -11,7 +11,6 @@ use crate::parts::Part;
 use crate::plat::{Plat, plat_of};
 use crate::report::read_sheet;
 use crate::row::{ESTATES, Row};
-use crate::same::same_node;
 use crate::section::{PANEL, add_section};
 use crate::sheet::{Sheet, Wanted};
 use crate::table::add_table;
@@ -57,7 +56,7 @@ fn estate_name(estate: Estate) -> &'static str {
 // Whether all parts are of one node.
 fn are_all_in(parts: &[Part], node: &Node) -> bool {
     for part in parts {
-        if !same_node(&part.node, node) {
+        if !part.node.is(node) {
             return false;
         }
     }

@@ -1,9 +1,9 @@
 //! The sheets of a report.
 
-ghost use Rattle.std.specs.Prelude.{◌≡◌, option_map};
+ghost use Rattle.std.specs.Prelude.{◌≡◌, slice_range};
 ghost use Rattle.title_plat.specs.Sheets.{sheet_in};
 
-use crate::row::Row;
+use crate::row::{Row, rows_between};
 
 /// Which sheet of a report is wanted.
 #[derive(Clone, Copy, Debug, PartialEq, Eq)]
@@ -41,9 +41,10 @@ pub struct Sheet {
 }
 
 impl Sheet {
-    /// The rows of the sheet.
-    pub fn rows(&self) -> &[Row] {
-        let Extent { first, end } = self.extent;
-        self.rows.as_slice().get(first..end).unwrap_or(&[])
+    /// The rows of the sheet, as far as there are any.
+    pub fn rows(&self) -> &[Row]
+        ensures rows { result.now ≡ slice_range self.now.rows.items self.now.extent.first self.now.extent.end }
+    {
+        rows_between(self.rows.as_slice(), self.extent.first, self.extent.end)
     }
 }

@@ -167,6 +167,51 @@ fn schedule_of(work: Work) -> Schedule
     }
 }
 
+// Does what a command asks for, with a cabinet in which plants' files are.
+fn carry_out_onto<T: Threads + Wait + Sync, R: Source, W: Sink, V: Watch, K: Cabinet>(
+    rt: &T,
+    alloc: Global,
+    line: Line,
+    source: &mut R,
+    sink: &mut W,
+    watch: &mut V,
+    cabinet: &mut K,
+) -> Ending
+    requires ranges { IsInRange line }
+    requires source_works { R.has_failed source.old ≡ false }
+    requires sink_works { W.has_failed sink.old ≡ false }
+    ensures obeyed { IsObeyedOnto K.File.seen K.File.may_leave K.File.moment K.File.left_since K.File.has_failed
+        K.Shared.seen K.Shared.may_leave K.Shared.moment K.Shared.left_since K.Shared.has_failed line.entry
+        (R.left source.old) (R.left source.new) (R.turns source.old) (R.turns source.new) (W.taken sink.old) (W.taken sink.new)
+        (R.has_failed source.new) (W.has_failed sink.new) result.cut result.status }
+    ensures turns { TurnsFor line.entry (R.turns source.old) (R.turns source.new) }
+    ensures quiet { IsQuiet result }
+{
+    match line {
+        Line::Kept { plant, after, work } => {
+            let schedule = schedule_of(work);
+            serve_kept(alloc, schedule, after, plant, cabinet, source, sink, watch)
+        }
+        Line::KeptDesk { plant } => serve_kept_desk(alloc, plant, cabinet, source, sink),
+        Line::KeptOffice {
+            plant,
+            after,
+            examiners,
+            tries,
+        } => serve_kept_office(
+            rt, alloc, examiners, tries, after, plant, cabinet, source, sink,
+        ),
+        Line::Look { plant, after } => {
+            serve_look(alloc, after, plant, cabinet, source, sink, watch)
+        }
+        Line::LookDesk { plant } => serve_look_desk(alloc, plant, cabinet, source, sink),
+        Line::Check { file, as_script } => check(alloc, file, as_script, cabinet, sink),
+        Line::Run | Line::Alone | Line::Office { .. } | Line::Desk | Line::Tract(_) => {
+            carry_out(rt, alloc, line, source, sink, watch)
+        }
+    }
+}
+
 /// Does what a command asks for, with a cabinet in which plants' files are.
 pub fn obey_onto<T: Threads + Wait + Sync, R: Source, W: Sink, E: Sink, V: Watch, K: Cabinet>(
     rt: &T,
@@ -189,29 +234,7 @@ pub fn obey_onto<T: Threads + Wait + Sync, R: Source, W: Sink, E: Sink, V: Watch
     ensures quiet { IsQuiet result }
     ensures told { Complains (W.has_failed sink.new) (E.taken errors.old) (E.taken errors.new) }
 {
-    let ending = match line {
-        Line::Kept { plant, after, work } => {
-            let schedule = schedule_of(work);
-            serve_kept(alloc, schedule, after, plant, cabinet, source, sink, watch)
-        }
-        Line::KeptDesk { plant } => serve_kept_desk(alloc, plant, cabinet, source, sink),
-        Line::KeptOffice {
-            plant,
-            after,
-            examiners,
-            tries,
-        } => serve_kept_office(
-            rt, alloc, examiners, tries, after, plant, cabinet, source, sink,
-        ),
-        Line::Look { plant, after } => {
-            serve_look(alloc, after, plant, cabinet, source, sink, watch)
-        }
-        Line::LookDesk { plant } => serve_look_desk(alloc, plant, cabinet, source, sink),
-        Line::Check { file, as_script } => check(alloc, file, as_script, cabinet, sink),
-        Line::Run | Line::Alone | Line::Office { .. } | Line::Desk | Line::Tract(_) => {
-            carry_out(rt, alloc, line, source, sink, watch)
-        }
-    };
+    let ending = carry_out_onto(rt, alloc, line, source, sink, watch, cabinet);
     complain(sink, errors);
     ending
 }

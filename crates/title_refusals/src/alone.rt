@@ -47,10 +47,8 @@ fn serve_all(
     tell_end(rt, desk, alloc, wanted)
 }
 
-/// An examiner reads a quarter, posts in its corner and, by the same deed, around that, reads again, and is refused a post that the
-/// grantor's title is too short for, one to nobody, and a sheet outside the plant.
-pub fn tell<R: Print>(rt: &R, alloc: Global, wanted: &mut Wanted) -> Result<()> {
-    let wishes = [
+fn wishes() -> [Wish; 8] {
+    [
         Wish::Sheet(Parcel::Quarter),
         sells(201, 1, HALF, Parcel::Corner),
         sells(202, 2, WHOLE, Parcel::Quarter),
@@ -59,7 +57,12 @@ pub fn tell<R: Print>(rt: &R, alloc: Global, wanted: &mut Wanted) -> Result<()> 
         Wish::Chain(Parcel::Quarter),
         sells(203, 3, HALF, Parcel::Quarter),
         Wish::Sheet(Parcel::Undeclared),
-    ];
-    let mut desk = open_plant(alloc, wanted)?;
-    serve_all(rt, &mut desk, alloc, &wishes, wanted)
+    ]
+}
+
+/// An examiner reads a quarter, posts in its corner and, by the same deed, around that, reads again, and is refused a post that the
+/// grantor's title is too short for, one to nobody, and a sheet outside the plant.
+pub fn tell<R: Print>(rt: &R, alloc: Global, wanted: &mut Wanted) -> Result<()> {
+    let desk = &mut open_plant(alloc, wanted)?.desk;
+    serve_all(rt, desk, alloc, &wishes(), wanted)
 }

@@ -6,6 +6,7 @@ use crate::viewing;
 use crate::wanted::Wanted;
 use anyhow::{Result, bail};
 use std::alloc::{AllocError, Global};
+use std::fmt::Display;
 use std::sync::Wait;
 use title_chain::{Ask, Record, Records};
 use title_ledger::Room;
@@ -41,6 +42,35 @@ fn committed<B: Room>(answer: Result<Done<B>, (Slip<B>, Fault)>) -> Result<Done<
     }
 }
 
+fn refused<B: Room>(answer: Result<Done<B>, (Slip<B>, Fault)>) -> Result<(Slip<B>, Fault)> {
+    match answer {
+        Ok(_) => bail!("a slip whose examiner was swept was committed"),
+        Err(back) => Ok(back),
+    }
+}
+
+fn aborted<B: Room>(answer: Result<(Seat<B>, bool), (Slip<B>, Fault)>) -> Result<(Seat<B>, bool)> {
+    match answer {
+        Ok(back) => Ok(back),
+        Err(_) => bail!("a slip isn't aborted"),
+    }
+}
+
+// Tells what an examiner has done.
+fn tell(rt: &impl Print, examiner: u32, what: impl Display + Drop) -> Result<()> {
+    println!(rt; "{examiner},{what}")?;
+    Ok(())
+}
+
+// A copy of a slip's record.
+fn record_of<B: Room>(
+    slip: &Slip<B>,
+    alloc: Global,
+    wanted: &mut Wanted,
+) -> Result<Record, AllocError> {
+    wanted.again(|| slip.record().copy(alloc))
+}
+
 // Looks at a slip and a viewer before a commit.
 fn look<B: Room>(
     slip: &Slip<B>,
@@ -55,13 +85,20 @@ fn look<B: Room>(
     })
 }
 
+fn tell_before(rt: &impl Print, before: Before) -> Result<()> {
+    println!(rt;
+        "before the commit: front {}, the slip as it was: {}",
+        before.front, before.is_as_it_was
+    )?;
+    Ok(())
+}
+
 impl<B: Room, R: Wait + Print> Asker<'_, B, R> {
     /// Begins a transaction.
     pub fn begin(&self, seat: Seat<B>, wanted: &mut Wanted) -> Result<Slip<B>> {
         let examiner = seat.examiner();
         let slip = self.begin_again(seat, wanted)?;
-        println!(self.rt; "{examiner},began")?;
-        Ok(slip)
+        tell(self.rt, examiner, "began").and(Ok(slip))
     }
 
     /// Begins a transaction, and tells nothing.
@@ -120,14 +157,6 @@ impl<B: Room, R: Wait + Print> Asker<'_, B, R> {
         Ok(())
     }
 
-    fn tell_before(&self, before: Before) -> Result<()> {
-        println!(self.rt;
-            "before the commit: front {}, the slip as it was: {}",
-            before.front, before.is_as_it_was
-        )?;
-        Ok(())
-    }
-
     // Commits a slip whose record is this, told what shows that it isn't committed yet; its growths may be refused no more.
     fn commit_again(
         &self,
@@ -136,8 +165,22 @@ impl<B: Room, R: Wait + Print> Asker<'_, B, R> {
         viewer: &mut Viewer<B>,
         wanted: &mut Wanted,
     ) -> Result<Done<B>> {
-        self.tell_before(look(&slip, kept, viewer, self.alloc, wanted)?)?;
+        tell_before(self.rt, look(&slip, kept, viewer, self.alloc, wanted)?)?;
         Ok(committed(self.office.commit(self.rt, slip))?)
+    }
+
+    // The same of one that wasn't committed, where that was for want of memory.
+    fn commit_refused(
+        &self,
+        back: (Slip<B>, Fault),
+        kept: &Record,
+        viewer: &mut Viewer<B>,
+        wanted: &mut Wanted,
+    ) -> Result<Done<B>> {
+        let (slip, why) = back;
+        let Fault::Memory = why else { bail!(why) };
+        wanted.count();
+        self.commit_again(slip, kept, viewer, wanted)
     }
 
     // Commits a slip whose record is this, and tells what showed before that it wasn't committed yet.
@@ -150,15 +193,8 @@ impl<B: Room, R: Wait + Print> Asker<'_, B, R> {
     ) -> Result<Done<B>> {
         let before = look(&slip, kept, viewer, self.alloc, wanted)?;
         match self.office.commit(self.rt, slip) {
-            Ok(done) => {
-                self.tell_before(before)?;
-                Ok(done)
-            }
-            Err((slip, Fault::Memory)) => {
-                wanted.count();
-                self.commit_again(slip, kept, viewer, wanted)
-            }
-            Err((_, why)) => bail!(why),
+            Ok(done) => tell_before(self.rt, before).and(Ok(done)),
+            Err(back) => self.commit_refused(back, kept, viewer, wanted),
         }
     }
 
@@ -169,8 +205,14 @@ impl<B: Room, R: Wait + Print> Asker<'_, B, R> {
         viewer: &mut Viewer<B>,
         wanted: &mut Wanted,
     ) -> Result<Done<B>> {
-        let kept = wanted.again(|| slip.record().copy(self.alloc))?;
+        let kept = record_of(&slip, self.alloc, wanted)?;
         self.commit_kept(slip, &kept, viewer, wanted)
+    }
+
+    /// Begins, takes steps, and tells their answers.
+    pub fn take(&self, seat: Seat<B>, wishes: &[Wish], wanted: &mut Wanted) -> Result<Slip<B>> {
+        let mut slip = self.begin(seat, wanted)?;
+        self.steps_told(&mut slip, wishes, wanted).and(Ok(slip))
     }
 
     /// Begins, posts a deed and commits.
@@ -181,57 +223,52 @@ impl<B: Room, R: Wait + Print> Asker<'_, B, R> {
         viewer: &mut Viewer<B>,
         wanted: &mut Wanted,
     ) -> Result<Done<B>> {
-        let mut slip = self.begin(seat, wanted)?;
-        self.step_told(&mut slip, Wish::Post(sale), wanted)?;
+        let slip = self.take(seat, &[Wish::Post(sale)], wanted)?;
         let done = self.commit(slip, viewer, wanted)?;
         let (examiner, place) = (done.seat.examiner(), done.place);
-        println!(self.rt; "{examiner},committed,{place}")?;
-        Ok(done)
+        tell(self.rt, examiner, format_args!("committed,{place}")).and(Ok(done))
     }
 
     // Commits a slip whose examiner was swept: why it isn't committed, and the slip.
     fn commit_swept(&self, slip: Slip<B>, wanted: &mut Wanted) -> Result<(Slip<B>, Fault)> {
-        let (slip, why) = match self.office.commit(self.rt, slip) {
-            Ok(_) => bail!("a slip whose examiner was swept was committed"),
-            Err(back) => back,
-        };
+        let (slip, why) = refused(self.office.commit(self.rt, slip))?;
         if !matches!(why, Fault::Memory) {
             return Ok((slip, why));
         }
         wanted.count();
-        match self.office.commit(self.rt, slip) {
-            Ok(_) => bail!("a slip whose examiner was swept was committed"),
-            Err(back) => Ok(back),
-        }
+        refused(self.office.commit(self.rt, slip))
     }
 
     /// Tells why a slip whose examiner was swept isn't committed.
     pub fn tell_swept(&self, slip: Slip<B>, wanted: &mut Wanted) -> Result<Slip<B>> {
         let (slip, why) = self.commit_swept(slip, wanted)?;
-        println!(self.rt; "{},not committed: {why}", slip.record().examiner)?;
-        Ok(slip)
+        let what = format_args!("not committed: {why}");
+        tell(self.rt, slip.record().examiner, what).and(Ok(slip))
     }
 
     /// Aborts, which wants no memory, and tells whether the transaction was open.
     pub fn abort(&self, slip: Slip<B>) -> Result<Seat<B>> {
         let examiner = slip.record().examiner;
-        let Ok((seat, was_open)) = self.office.abort(self.rt, slip) else {
-            bail!("a slip isn't aborted");
-        };
-        println!(self.rt; "{examiner},aborted, was open: {was_open}")?;
-        Ok(seat)
+        let (seat, was_open) = aborted(self.office.abort(self.rt, slip))?;
+        let what = format_args!("aborted, was open: {was_open}");
+        tell(self.rt, examiner, what).and(Ok(seat))
+    }
+
+    // Sweeps an examiner.
+    fn sweep(&self, examiner: u32, wanted: &mut Wanted) -> Reply {
+        match self.office.sweep(self.rt, examiner) {
+            Reply::Memory => {
+                wanted.count();
+                self.office.sweep(self.rt, examiner)
+            }
+            reply => reply,
+        }
     }
 
     /// Sweeps an examiner twice: the first time, while it is open, that wants no memory.
     pub fn sweep_twice(&self, examiner: u32, wanted: &mut Wanted) -> Result<()> {
         tell_reply(self.rt, examiner, &self.office.sweep(self.rt, examiner))?;
-        let mut reply = self.office.sweep(self.rt, examiner);
-        if let Reply::Memory = &reply {
-            wanted.count();
-            reply = self.office.sweep(self.rt, examiner);
-        }
-        tell_reply(self.rt, examiner, &reply)?;
-        Ok(())
+        Ok(tell_reply(self.rt, examiner, &self.sweep(examiner, wanted))?)
     }
 }
 

@@ -17,7 +17,21 @@ use title_tree_store::TreeStore;
 // UNITED STATES, ADAMS and BELL.
 const PARTIES: u32 = 3;
 
+/// A desk of the plant.
 pub type Plant = Desk<TreeStore, NodeLocks>;
+
+/// Who has one.
+pub struct Owner {
+    pub desk: Plant,
+}
+
+// By hand, so that whoever lets one go sees one call.
+impl Drop for Owner {
+    fn drop(self) {
+        let Owner { desk } = self;
+        drop(desk);
+    }
+}
 
 /// How both transactions end.
 #[derive(Clone, Copy)]
@@ -181,7 +195,7 @@ fn open(alloc: Global, townships: &[Township], wanted: &mut Wanted) -> Result<Pl
 }
 
 /// A desk of the plant with no call yet.
-pub fn open_plant(alloc: Global, wanted: &mut Wanted) -> Result<Plant> {
+pub fn open_plant(alloc: Global, wanted: &mut Wanted) -> Result<Owner> {
     let Some(township) = township() else {
         bail!("there is no such township");
     };
@@ -189,7 +203,8 @@ pub fn open_plant(alloc: Global, wanted: &mut Wanted) -> Result<Plant> {
     if !may_open(PARTIES, &townships) {
         bail!("a desk can't be opened for these");
     }
-    Ok(open(alloc, &townships, wanted)?)
+    let desk = open(alloc, &townships, wanted)?;
+    Ok(Owner { desk })
 }
 
 // The turns, up to what is left.
@@ -210,5 +225,6 @@ fn tell_turns(
 
 /// Two examiners overlap, and then both commit, or both abort.
 pub fn tell<R: Print>(rt: &R, alloc: Global, ending: Ending, wanted: &mut Wanted) -> Result<()> {
-    tell_turns(rt, &mut open_plant(alloc, wanted)?, alloc, ending, wanted)
+    let desk = &mut open_plant(alloc, wanted)?.desk;
+    tell_turns(rt, desk, alloc, ending, wanted)
 }

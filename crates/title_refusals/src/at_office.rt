@@ -10,7 +10,7 @@ use crate::telling::tell_records;
 use crate::viewing::{front, tell_record_at, tell_sheet};
 use crate::wanted::Wanted;
 use anyhow::{Result, bail};
-use std::alloc::Global;
+use std::alloc::{AllocError, Global};
 use std::marker::Brand;
 use std::sync::Wait;
 use title_desk::may_open;
@@ -57,9 +57,7 @@ fn take_back<B: Room, R: Wait + Print>(
     wishes: &[Wish],
     wanted: &mut Wanted,
 ) -> Result<Seat<B>> {
-    let mut slip = asker.begin(seat, wanted)?;
-    asker.steps_told(&mut slip, wishes, wanted)?;
-    asker.abort(slip)
+    asker.abort(asker.take(seat, wishes, wanted)?)
 }
 
 // A seat's examiner reads all land and a chain in a transaction that is then aborted.
@@ -94,15 +92,15 @@ fn tell_other<B: Room, R: Wait + Print>(
     Ok(())
 }
 
-// What came of a commit, and the seat.
-fn taken<B: Room>(done: Done<B>) -> (Outcome, Seat<B>) {
+// Adds the outcome of a commit: the seat.
+fn keep<B: Room>(done: Done<B>, outcomes: &mut Vec<Outcome>) -> Result<Seat<B>, AllocError> {
     let Done {
         place,
         rec,
         seat,
         ..
     } = done;
-    (Outcome { place, rec }, seat)
+    add_outcome(outcomes, Outcome { place, rec }).and(Ok(seat))
 }
 
 // A viewer learns of a commit, and shows its section; the other one has learnt of nothing.
@@ -118,6 +116,18 @@ fn view_back<B: Room, R: Wait + Print>(
     tell_other(asker, other, wanted)
 }
 
+// The same of a commit of the first deed.
+fn sell_and_view_back<B: Room, R: Wait + Print>(
+    asker: &Asker<'_, B, R>,
+    seat: Seat<B>,
+    viewer: &mut Viewer<B>,
+    other: &mut Viewer<B>,
+    wanted: &mut Wanted,
+) -> Result<Done<B>> {
+    let done = asker.sell(seat, FIRST_SALE, other, wanted)?;
+    view_back(asker, &done.receipt, viewer, other, wanted).and(Ok(done))
+}
+
 // A commit is read back: its outcome is added.
 fn read_back<B: Room, R: Wait + Print>(
     asker: &Asker<'_, B, R>,
@@ -127,22 +137,19 @@ fn read_back<B: Room, R: Wait + Print>(
     outcomes: &mut Vec<Outcome>,
     wanted: &mut Wanted,
 ) -> Result<()> {
-    let done = asker.sell(seat, FIRST_SALE, other, wanted)?;
-    view_back(asker, &done.receipt, viewer, other, wanted)?;
-    let (outcome, seat) = taken(done);
-    add_outcome(outcomes, outcome)?;
-    look_round(asker, seat, wanted)
+    let done = sell_and_view_back(asker, seat, viewer, other, wanted)?;
+    look_round(asker, keep(done, outcomes)?, wanted)
 }
 
 // An examiner posts a deed and is swept.
 fn post_and_sweep<B: Room, R: Wait + Print>(
     asker: &Asker<'_, B, R>,
-    slip: &mut Slip<B>,
-    examiner: u32,
+    seat: Seat<B>,
     wanted: &mut Wanted,
-) -> Result<()> {
-    asker.step_told(slip, Wish::Post(FIRST_SALE), wanted)?;
-    asker.sweep_twice(examiner, wanted)
+) -> Result<Slip<B>> {
+    let examiner = seat.examiner();
+    let slip = asker.take(seat, &[Wish::Post(FIRST_SALE)], wanted)?;
+    asker.sweep_twice(examiner, wanted).and(Ok(slip))
 }
 
 // The same, and then isn't committed, but aborted: the seat.
@@ -151,11 +158,8 @@ fn sweep_sale<B: Room, R: Wait + Print>(
     seat: Seat<B>,
     wanted: &mut Wanted,
 ) -> Result<Seat<B>> {
-    let examiner = seat.examiner();
-    let mut slip = asker.begin(seat, wanted)?;
-    post_and_sweep(asker, &mut slip, examiner, wanted)?;
-    let slip = asker.tell_swept(slip, wanted)?;
-    asker.abort(slip)
+    let slip = post_and_sweep(asker, seat, wanted)?;
+    asker.abort(asker.tell_swept(slip, wanted)?)
 }
 
 // A deed is aborted, of which nothing is to be seen then: the seat.
@@ -211,8 +215,21 @@ fn learn_and_view<B: Room, R: Wait + Print>(
     tell_views(asker, viewer, wanted)
 }
 
-// An examiner commits a deed, and a viewer that has learnt of it is asked for all that it shows: its outcome is added.
+// An examiner commits a deed, and a viewer that has learnt of it is asked for all that it shows.
 fn sell_and_view<B: Room, R: Wait + Print>(
+    asker: &Asker<'_, B, R>,
+    sold: (Seat<B>, Sale),
+    viewer: &mut Viewer<B>,
+    other: &mut Viewer<B>,
+    wanted: &mut Wanted,
+) -> Result<Done<B>> {
+    let (seat, sale) = sold;
+    let done = asker.sell(seat, sale, other, wanted)?;
+    learn_and_view(asker, &done.receipt, viewer, wanted).and(Ok(done))
+}
+
+// The same: its outcome is added.
+fn view_sale<B: Room, R: Wait + Print>(
     asker: &Asker<'_, B, R>,
     sold: (Seat<B>, Sale),
     viewer: &mut Viewer<B>,
@@ -220,11 +237,9 @@ fn sell_and_view<B: Room, R: Wait + Print>(
     outcomes: &mut Vec<Outcome>,
     wanted: &mut Wanted,
 ) -> Result<()> {
-    let (seat, sale) = sold;
-    let done = asker.sell(seat, sale, other, wanted)?;
-    learn_and_view(asker, &done.receipt, viewer, wanted)?;
-    let (outcome, _) = taken(done);
-    Ok(add_outcome(outcomes, outcome)?)
+    let done = sell_and_view(asker, sold, viewer, other, wanted)?;
+    keep(done, outcomes)?;
+    Ok(())
 }
 
 // Each of two examiners commits, one after the other.
@@ -238,8 +253,8 @@ fn view_all<B: Room, R: Wait + Print>(
 ) -> Result<()> {
     let (first, second) = seats;
     let (first, second) = ((first, FIRST_SALE), (second, SECOND_SALE));
-    sell_and_view(asker, first, viewer, other, outcomes, wanted)?;
-    sell_and_view(asker, second, viewer, other, outcomes, wanted)
+    view_sale(asker, first, viewer, other, outcomes, wanted)?;
+    view_sale(asker, second, viewer, other, outcomes, wanted)
 }
 
 // The two seats of an office.

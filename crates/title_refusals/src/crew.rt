@@ -268,18 +268,19 @@ fn is_slip_due<B: Room, R: Wait + Print>(
     asker.office.abort(asker.rt, slip).is_ok() && is_due
 }
 
-// Whether a slip is shown the plant after these sales.
+// Whether a seat's examiner is shown the plant after these sales.
 fn is_shown<B: Room, R: Wait + Print>(
     asker: &Asker<'_, B, R>,
-    mut slip: Slip<B>,
+    seat: Seat<B>,
     sold: Sold,
     wanted: &mut Wanted,
 ) -> Result<bool> {
+    let mut slip = asker.begin_again(seat, wanted)?;
     asker.step(&mut slip, Wish::Sheet(Parcel::Everything), wanted)?;
     Ok(is_slip_due(asker, slip, sold))
 }
 
-// Whether a seat's examiner is shown the plant after these sales.
+// The same where there is a seat.
 fn is_plant_due<B: Room, R: Wait + Print>(
     asker: &Asker<'_, B, R>,
     seat: Option<Seat<B>>,
@@ -287,7 +288,7 @@ fn is_plant_due<B: Room, R: Wait + Print>(
     wanted: &mut Wanted,
 ) -> Result<bool> {
     match seat {
-        Some(seat) => is_shown(asker, asker.begin_again(seat, wanted)?, sold, wanted),
+        Some(seat) => is_shown(asker, seat, sold, wanted),
         None => Ok(false),
     }
 }

@@ -50,6 +50,13 @@ fn tell_seen(rt: &impl Print, seen: &Seen) -> io::Result<()> {
     tell_rows(rt, 0, &seen.rows)
 }
 
+fn tell_answer(rt: &impl Print, answer: Result<Seen, Unseen>) -> io::Result<()> {
+    match answer {
+        Ok(seen) => tell_seen(rt, &seen),
+        Err(why) => println!(rt; "viewer: {why}"),
+    }
+}
+
 /// Tells what a viewer shows of a parcel.
 pub fn tell_sheet<B: Room>(
     rt: &impl Print,
@@ -59,9 +66,13 @@ pub fn tell_sheet<B: Room>(
     wanted: &mut Wanted,
 ) -> Result<()> {
     let tract = parcel.tract(alloc, wanted)?;
-    match sheet(viewer, &tract, wanted) {
-        Ok(seen) => Ok(tell_seen(rt, &seen)?),
-        Err(why) => Ok(println!(rt; "viewer: {why}")?),
+    Ok(tell_answer(rt, sheet(viewer, &tract, wanted))?)
+}
+
+fn tell_found(rt: &impl Print, place: u64, found: Option<Record>) -> io::Result<()> {
+    match found {
+        Some(record) => tell_record(rt, place, &record),
+        None => println!(rt; "no record {place}"),
     }
 }
 
@@ -72,8 +83,5 @@ pub fn tell_record_at<B: Room>(
     place: u64,
     wanted: &mut Wanted,
 ) -> Result<()> {
-    match record(viewer, place, wanted)? {
-        Some(found) => Ok(tell_record(rt, place, &found)?),
-        None => Ok(println!(rt; "no record {place}")?),
-    }
+    Ok(tell_found(rt, place, record(viewer, place, wanted)?)?)
 }

@@ -22,7 +22,6 @@ pub struct Image {
 }
 
 /// A plant as an ordered map by cell; a cell that it doesn't hold has its opening owners. What is out is kept under its number.
-#[derive(Drop)]
 pub struct CellStore {
     alloc: Global,
     townships: Vec<Township>,
@@ -32,6 +31,22 @@ pub struct CellStore {
     ghost ordered: { IsOrdered nat_cmp lent } by { Prim.hlevel props },
     ghost numbered: { AllBelow next (loans_of lent.entries) },
     ghost backed: { AreBacked townships.items map lent } by { Prim.hlevel Bool-set },
+}
+
+// By hand, so that whoever lets one go sees one call.
+impl Drop for CellStore {
+    fn drop(self) {
+        let CellStore {
+            alloc: _,
+            townships,
+            map,
+            lent,
+            next: _,
+        } = self;
+        drop(townships);
+        drop(map);
+        drop(lent);
+    }
 }
 
 // The node of a tract's cover in which a cell lies; the whole plant where it lies in none.

@@ -27,7 +27,6 @@ pub struct Image {
 
 /// A plant as a list of townships for each estate, each of one tree or of one for each section; a cell has the holding of the leaf
 /// above it. What is out is kept in the order of its numbers.
-#[derive(Drop)]
 pub struct TreeStore {
     alloc: Global,
     townships: Townships,
@@ -37,6 +36,21 @@ pub struct TreeStore {
     ghost kept: { IsKept townships forest (images lent) lent.next } by { kept_prop _ _ _ _ },
     ghost joined: { AreJoined townships forest (images lent) } by { joined_prop _ _ _ },
     ghost noted: { AreHomes (length townships) forest.written.items } by { Prim.hlevel home_prop },
+}
+
+// By hand, so that whoever lets one go sees one call.
+impl Drop for TreeStore {
+    fn drop(self) {
+        let TreeStore {
+            alloc: _,
+            townships,
+            forest,
+            lent,
+        } = self;
+        drop(townships);
+        drop(forest);
+        drop(lent);
+    }
 }
 
 impl TreeStore {

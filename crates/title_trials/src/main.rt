@@ -22,6 +22,7 @@ mod turns;
 
 use anyhow::Result;
 use counts::{Case, Counts};
+use replies::Tally;
 use std::env;
 use title_chance::Reach;
 use title_lock::{Guards, LockFault, NodeLocks};
@@ -127,6 +128,28 @@ fn tell_soak<R: Print + AllocGlobal>(rt: &R) -> Result<()> {
     Ok(())
 }
 
+// What was replied to requests.
+fn tell_requests<R: Print>(rt: &R, tally: Tally) -> Result<()> {
+    println!(rt;
+        "stores: {} posted, {} refused, {} sheets",
+        tally.posted, tally.refused, tally.sheets
+    )?;
+    println!(rt;
+        "stores: {} conflicts, {} commits, {} aborts, {} others",
+        tally.conflicts, tally.committed, tally.aborted, tally.others
+    )?;
+    Ok(())
+}
+
+// What was replied to asks alone.
+fn tell_alone<R: Print>(rt: &R, alone: Tally) -> Result<()> {
+    println!(rt;
+        "stores: alone {} posted, {} refused, {} sheets and chains, {} others",
+        alone.posted, alone.refused, alone.sheets, alone.others
+    )?;
+    Ok(())
+}
+
 // Asks both stores; how many requests wanted memory.
 fn tell_stores<R: Print + AllocGlobal>(
     rt: &R,
@@ -139,18 +162,8 @@ fn tell_stores<R: Print + AllocGlobal>(
         "stores: {} lists of {} requests and one of {}, {differ} differ or stay untidy",
         extent.lists, extent.requests, last.requests
     )?;
-    println!(rt;
-        "stores: {} posted, {} refused, {} sheets",
-        tally.posted, tally.refused, tally.sheets
-    )?;
-    println!(rt;
-        "stores: {} conflicts, {} commits, {} aborts, {} others",
-        tally.conflicts, tally.committed, tally.aborted, tally.others
-    )?;
-    println!(rt;
-        "stores: alone {} posted, {} refused, {} sheets and chains, {} others",
-        alone.posted, alone.refused, alone.sheets, alone.others
-    )?;
+    tell_requests(rt, tally)?;
+    tell_alone(rt, alone)?;
     Ok(tally.wanted.saturating_add(alone.wanted))
 }
 

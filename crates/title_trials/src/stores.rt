@@ -1,5 +1,7 @@
 //! The two stores, each behind a desk, asked alike.
 
+ghost use Rattle.title_trace.specs.Due.{MayOpen};
+
 use crate::replies::{Tally, are_one};
 use crate::turns::Turn;
 use std::alloc::{AllocError, Global};
@@ -31,13 +33,26 @@ pub struct Compared {
     pub alone: Tally,
 }
 
-struct Desks {
-    alloc: Global,
-    cells: Desk<CellStore, NodeLocks>,
-    trees: Desk<TreeStore, NodeLocks>,
+// A store behind a desk.
+struct Plant<S: Store + Drop> {
+    desk: Desk<S, NodeLocks>,
 }
 
-// By hand, so that whoever lets them go sees one call.
+// By hand, so that whoever lets one go sees one call.
+impl<S: Store + Drop> Drop for Plant<S> {
+    fn drop(self) {
+        let Plant { desk } = self;
+        drop(desk);
+    }
+}
+
+struct Desks {
+    alloc: Global,
+    cells: Plant<CellStore>,
+    trees: Plant<TreeStore>,
+}
+
+// The same of both.
 impl Drop for Desks {
     fn drop(self) {
         let Desks {
@@ -50,14 +65,25 @@ impl Drop for Desks {
     }
 }
 
+fn open_desk<S: Store + Drop>(
+    alloc: Global,
+    parties: u32,
+    townships: &[Township],
+) -> Result<Plant<S>, AllocError>
+    requires may_open { MayOpen parties townships.now }
+{
+    let desk = Desk::open(alloc, parties, townships)?;
+    Ok(Plant { desk })
+}
+
 fn open(alloc: Global, townships: &[Township]) -> Result<Option<Desks>, AllocError> {
     if !may_open(PARTIES, townships) {
         return Ok(None);
     }
     Ok(Some(Desks {
         alloc,
-        cells: Desk::open(alloc, PARTIES, townships)?,
-        trees: Desk::open(alloc, PARTIES, townships)?,
+        cells: open_desk(alloc, PARTIES, townships)?,
+        trees: open_desk(alloc, PARTIES, townships)?,
     }))
 }
 
@@ -88,9 +114,9 @@ fn same_records(records: &[Record], others: &[Record]) -> bool {
 impl Desks {
     // Whether both serve an examiner alike.
     fn are_one(&mut self, ground: &Ground, turn: Turn, tally: &mut Tally) -> bool {
-        let reply = turn.serve(&mut self.cells, ground, tally);
+        let reply = turn.serve(&mut self.cells.desk, ground, tally);
         tally.count(&reply);
-        are_one(reply, turn.serve(&mut self.trees, ground, tally))
+        are_one(reply, turn.serve(&mut self.trees.desk, ground, tally))
     }
 
     fn turn(&self, examiner: u32, wish: Wish, doc: u64) -> Turn {
@@ -100,17 +126,17 @@ impl Desks {
     // The same for any examiner's wish.
     fn any_turn(&self, chance: &mut Chance, ground: &Ground, examiners: u32, doc: u64) -> Turn {
         let examiner = chance.below(examiners).saturating_add(1);
-        let is_open = self.cells.is_open(examiner);
+        let is_open = self.cells.desk.is_open(examiner);
         self.turn(examiner, Wish::any(chance, ground, is_open), doc)
     }
 
     // Whether both have the same records.
     fn are_records_one(&self) -> bool {
-        same_records(self.cells.records(), self.trees.records())
+        same_records(self.cells.desk.records(), self.trees.desk.records())
     }
 
     fn are_trees_tidy(&self) -> bool {
-        self.trees.store().is_tidy()
+        self.trees.desk.store().is_tidy()
     }
 
     // Commits all, after which the trees have no node too many.

@@ -28,7 +28,6 @@ pub struct Seen {
 }
 
 /// What a viewer is, by any store: it keeps the plant that it made of the records that it last showed, and the last sheet of it.
-#[derive(Drop)]
 pub struct Watcher<B: Room, S: Store + Drop> {
     alloc: Global,
     number: u64,
@@ -37,6 +36,25 @@ pub struct Watcher<B: Room, S: Store + Drop> {
     count: usize,
     told: Front<B>,
     kept: Option<Kept<S>>,
+}
+
+// By hand, so that whoever lets one go sees one call.
+impl<B: Room, S: Store + Drop> Drop for Watcher<B, S> {
+    fn drop(self) {
+        let Watcher {
+            alloc: _,
+            number: _,
+            townships,
+            reader,
+            count: _,
+            told,
+            kept,
+        } = self;
+        drop(townships);
+        drop(reader);
+        drop(told);
+        drop(kept);
+    }
 }
 
 impl<B: Room, S: Store + Drop> Model for Watcher<B, S> {
@@ -148,9 +166,16 @@ impl<B: Room, S: Store + Drop> Watcher<B, S> {
 
 /// Who looks at what one office publishes. Its calls take no lock. A contract sees the office's number, the records that it has seen,
 /// and those that it has learnt of: what it is shown begins with both.
-#[derive(Drop)]
 pub struct Viewer<B: Room> {
     watcher: Watcher<B, TreeStore>,
+}
+
+// By hand, so that whoever lets one go sees one call.
+impl<B: Room> Drop for Viewer<B> {
+    fn drop(self) {
+        let Viewer { watcher } = self;
+        drop(watcher);
+    }
 }
 
 impl<B: Room> Model for Viewer<B> {

@@ -58,7 +58,7 @@ posts_are names e (s ∷ steps) fine = by_answer (posts_are names e steps fine.1
     by_answer rest (ask.Post p) answer.Posted is = (is, rest)
     by_answer rest (ask.Post p) (answer.Refused rule estate node) is = rest
 
-kept_is : (names : List (List ℕ)) (r : Record) → FineRecord IsExaminer (FineAsk names) r → length r.steps ≤ most_steps
+pub kept_is : (names : List (List ℕ)) (r : Record) → FineRecord IsExaminer (FineAsk names) r → length r.steps ≤ most_steps
     → IsKept names (kept r)
 kept_is names r fine short = record {
   posts = posts_of r.steps;

@@ -1,11 +1,11 @@
 -- What stands in a file is one thing, and a file that is a plant is refused by no row.
 use Rattle.std.proofs.Common.{◌≡◌, ◌∙◌, ℕ, List, ◌++◌, Option, Some, None, Result, Ok, Err, sym, ap, subst, take, drop, reverse, ⊎_elim}
-use Rattle.std.proofs.lemmas.List.{reverse-append, reverse-reverse, take-append-drop}
+use Rattle.std.{proofs.{Common.{IfSome}, lemmas.List.{reverse-append, reverse-reverse, take-append-drop}}, specs.Global.{Vec}}
 use Rattle.title_land.specs.{Depth.{depth}, declared.survey.Township.{Township}}
 use Rattle.title_chain.specs.{declared.record.Record.{Record}, Alone.{IsSerial}}
-use Rattle.title_journal.specs.Rest.{StandsAlike}
+use Rattle.title_journal.specs.{Blocks.{IsBlock}, Rest.{StandsAlike}}
 use Rattle.title_daybook.specs.{Files.{row_of, standing_after, standing_in}, Standing.{Standing}}
-use Rattle.title_lasting.specs.{DayLaws.{PlantsAreNotRefused}, Kept.{with_text}, Laws.GoingOn.{earlier_serial}, Made.{Adds}}
+use Rattle.title_lasting.specs.{DayLaws.{PlantsAreNotRefused}, Kept.{text_in, with_text}, Laws.GoingOn.{earlier_serial}, Made.{Adds}}
 use Rattle.title_lasting.specs.{Openings.{StandsAs}, Refusals.{IsFirstRefused, oldest}}
 
 -- with those behind them the first so many are all
@@ -43,3 +43,9 @@ pub adds_stand : (block : Option (List ℕ)) (before after : Standing) → Adds 
     → standing_after stood ≡ Ok before → standing_after (with_text block stood) ≡ Ok after
 adds_stand None before after adds stood is = is ∙ ap Ok (sym adds)
 adds_stand (Some text) before after adds stood is = adds.1 stood is
+
+-- what a day adds is a block
+pub block_is : (block : Option (Vec ℕ)) (before after : Standing) → Adds (text_in block) before after
+    → IfSome block (λ text. IsBlock text.items)
+block_is None before after adds = tt
+block_is (Some text) before after adds = adds.0

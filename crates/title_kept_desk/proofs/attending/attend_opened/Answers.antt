@@ -1,6 +1,8 @@
 -- The counter before the first row has what stood, and the mark says how much that is.
 use Rattle.std.{proofs.{Common.{◌≡◌, ◌∙◌, ◌==◌, ℕ, ap, length, not, subst, sym}, lemmas.List.{length-map}}, specs.String.{string_bytes}}
 use Rattle.title_desk.specs.Told.{Books}
+use Rattle.title_trace.specs.Trace.{committed}
+use Rattle.title_standing.specs.Standing.{kept, replayed}
 use Rattle.title_daybook.specs.{Books.{standing_of}, Files.{IsPlant}}
 use Rattle.title_counter.specs.Counters.{Counter}
 use Rattle.title_lasting.specs.Laws.KeptNews.{many_deeds}
@@ -36,16 +38,21 @@ attend_rows-requires g c =
     ∙ onto_opening s c.any_stand-shut.result c.into_inner.result.trace
     (c.any_stand-shut.ensures.any ∙ ap (λ (n : ℕ). not (n == 0)) many) trace in
     let mark : Mark =
-    record { gate = c.args.opened.gate; townships = c.len.result; parties = c.len-2.result; records = c.len-records.result } in
+    record {
+      gate = c.args.opened.gate;
+      stood = record { townships = c.len.result; parties = c.len-2.result; records = c.len-records.result };
+    } in
     record {
       up_to = subst
           (λ (counter : Counter). IsUpTo g.D.Disk.seen g.D.Disk.may_leave g.D.Disk.has_failed c.args.disk.now mark counter) (sym is)
           (record {
             rest = c.requires.rest;
             stands = opening_has cells recalled file s plant;
-            townships = c.len.ensures ∙ stands.townships.ok.0;
-            parties = c.len-2.ensures.len ∙ sym (length-map stands.parties.keys string_bytes);
-            records = many ∙ ap length (sym (recalled s.records).0);
+            so_much = record {
+              townships = c.len.ensures ∙ stands.townships.ok.0;
+              names = c.len-2.ensures.len ∙ sym (length-map stands.parties.keys string_bytes);
+              records = many ∙ ap length (sym (recalled s.records).0) ∙ sym (length-map (committed (replayed s.records)) kept);
+            };
           });
       opening = (s, plant, is);
       source_works = c.requires.source_works;

@@ -37,7 +37,7 @@ run_on-requires-clause-townships g c κs within =
     let asked = asked_in c.in_ok-begun.begun.plan in
     let begins = c.scripts_begin.ensures.begins (schedule.Office c.args.examiners) (declared_in s) footing.asked.script asked
     footing.asked.asks in
-    omega (arith, footing.townships_stood, no_fewer s.townships asked.townships begins.0)
+    omega (arith, footing.so_much.townships, no_fewer s.townships asked.townships begins.0)
 
 pub run_on-requires-clause-parties : goal.run_on-requires-clause-parties
 run_on-requires-clause-parties g c κs within =
@@ -47,19 +47,14 @@ run_on-requires-clause-parties g c κs within =
     let asked = asked_in plan in
     let begins = c.scripts_begin.ensures.begins (schedule.Office c.args.examiners) (declared_in s) footing.asked.script asked
     footing.asked.asks in
-    omega (arith, footing.names_stood, no_fewer s.names asked.names begins.1, length-map plan.parties.keys string_bytes)
+    omega (arith, footing.so_much.names, no_fewer s.names asked.names begins.1, length-map plan.parties.keys string_bytes)
 
-pub run_on-requires-clause-stood : goal.run_on-requires-clause-stood
-run_on-requires-clause-stood g c κs within =
-    let footing = c.in_ok-begun.ensures.footing in
-    footing.records_stood ∙ sym footing.many
-
-pub run_on-requires-clause-kept : goal.run_on-requires-clause-kept
-run_on-requires-clause-kept g c κs within =
+pub run_on-requires-clause-records : goal.run_on-requires-clause-records
+run_on-requires-clause-records g c κs within =
     let s = standing_of c.args.stands in
     let footing = c.in_ok-begun.ensures.footing in
     ap length (served_records c.replayed_records_are_committed.ensures.law (asked_in c.in_ok-begun.begun.plan).townships s.records
-    c.in_ok-begun.begun.desk.value footing.served) ∙ sym footing.many
+    c.in_ok-begun.begun.desk.value footing.served) ∙ sym footing.so_much.records
 
 pub returns-in_err-made-clause-why : goal.returns-in_err-made-clause-why
 returns-in_err-made-clause-why g c =
@@ -85,6 +80,6 @@ returns-clause-made g c =
     let few = subst (λ (n : ℕ). n ≤ most_parties) (sym parties) c.args.stands.few in
     office_made c.replayed_records_are_committed.ensures.law c.kept_records_are_serial.ensures.law c.args.examiners s left (asked_in plan)
     footing.asked c.requires.stands.0 c.requires.stands.1 plan.once plan.few_townships few c.in_ok-begun.begun.desk.value footing.served
-    c.lands_have_cells.ensures.law c.descriptions_stay.ensures.law c.in_ok-begun.begun.stood
-    (record { townships = footing.townships_stood; names = footing.names_stood; records = footing.records_stood })
-    c.in_ok-made.made c.in_ok-made.ensures.run
+    c.lands_have_cells.ensures.law c.descriptions_stay.ensures.law c.added_reads_back.ensures.law c.kept_are_written.ensures.law
+    (c.scripts_begin.ensures.begins (schedule.Office c.args.examiners) (declared_in s) footing.asked.script (asked_in plan)
+    footing.asked.asks) c.in_ok-begun.begun.stood footing.so_much c.in_ok-made.made c.in_ok-made.ensures.run

@@ -1,6 +1,6 @@
--- The script is dealt and run, its records can be written, and its report is told.
-use Rattle.std.{proofs.Common.{◌≡◌, ◌∙◌, ◌+◌, ◌≤◌, ℕ, List, ap, arith, length, map, reverse, subst, sum, sym}, specs.String.{string_bytes}}
-use Rattle.std.proofs.lemmas.List.{length-map}
+-- The script is dealt and run, its block is put together, and its report is told.
+use Rattle.std.proofs.Common.{◌≡◌, ◌∙◌, ◌+◌, ◌^◌, ◌<◌, ◌≤◌, ℕ, List, ap, arith, length, map, reverse, subst, sum, sym}
+use Rattle.std.{proofs.lemmas.List.{length-map}, specs.String.{string_bytes}}
 use Rattle.title_land.specs.{Depth.{depth}, declared.survey.Township.{Township}}
 use Rattle.title_chain.specs.{Alone.{IsSerial}, declared.record.Record.{Record}}
 use Rattle.title_store.specs.Plants.{IsEachOnce}
@@ -9,8 +9,8 @@ use Rattle.title_desk.specs.Told.{Books}
 use Rattle.title_plan.specs.Asked.{asked_in}
 use Rattle.title_turns.specs.Dealt.{Dealt, told_by}
 use Rattle.title_day.specs.{DaysOn.{GoesOnFrom, closing_text_on}, OfficeRecords.{AreMadeOf}}
-use Rattle.title_lasting.specs.{Footings.{Continues, IsNew, stands_on}, Kept.{text_in}}
-use Rattle.title_kept_office.{specs.OfficeDays.{IsOwnTrouble}, proofs.Ended.{ended_by, office_trouble, unwritten_trouble}}
+use Rattle.title_lasting.specs.{Kept.{text_in}, Made.{IsAddedBlock}}
+use Rattle.title_kept_office.{specs.OfficeDays.{IsOwnTrouble}, proofs.Ended.{ended_by, office_trouble}}
 use Rattle.title_kept_office.proofs.making.run_on.Goals as goal
 
 pub returns-in_err-script-clause-why : goal.returns-in_err-script-clause-why
@@ -36,8 +36,8 @@ returns-in_err-day-clause-why g c =
     ended_by IsOwnTrouble _ c.from_residual-in_err-day.result c.from_residual-in_err-day.ensures.1
     (office_trouble c.in_err-day.field-0.0 c.in_err-day.ensures.why)
 
-pub day_block-requires : goal.day_block-requires
-day_block-requires g c =
+pub added_block-requires : goal.added_block-requires
+added_block-requires g c =
     let script = c.in_ok-script.ensures.script in
     let listed = c.as_slice-listed.ensures.value ∙ script.townships in
     let names : length c.in_ok-script.script.parties.keys ≡ length c.args.plan.parties.keys =
@@ -50,20 +50,18 @@ day_block-requires g c =
     record {
       townships = subst (λ (ts : List Township). c.args.stood.townships ≤ length ts) (sym listed) c.requires.townships;
       parties = omega (arith, c.requires.parties, names);
-      stood = c.requires.stood;
-      kept = omega (
+      records = omega (
         arith,
-        c.requires.kept,
+        c.requires.records,
         c.in_ok-day.ensures.counted,
         ap (λ (d : Books). length (committed d.trace)) c.into_inner.ensures,
-        ap length c.as_slice-records.ensures.slice,
+        ap length c.as_slice.ensures.slice,
       );
     }
 
 pub returns-in_err-block-clause-why : goal.returns-in_err-block-clause-why
 returns-in_err-block-clause-why g c =
-    ended_by IsOwnTrouble _ c.from_residual-in_err-block.result c.from_residual-in_err-block.ensures.1
-    (unwritten_trouble c.in_err-block.field-0.0)
+    ended_by IsOwnTrouble _ c.from_residual-in_err-block.result c.from_residual-in_err-block.ensures.1 tt
 
 pub close_office-requires : goal.close_office-requires
 close_office-requires g c =
@@ -104,13 +102,15 @@ returns-clause-run g c =
           c.in_ok-day.ensures.made);
       report = c.in_ok-closing.ensures.text
           ∙ ap (λ (ts : List Township). closing_text_on ts (map string_bytes c.in_ok-script.script.parties.keys)
-          c.in_ok-script.script.steps tallies c.args.kept records) listed
-          ∙ ap (λ (ns : List (List ℕ)). closing_text_on asked.townships ns c.in_ok-script.script.steps tallies c.args.kept records)
+          c.in_ok-script.script.steps tallies c.args.stood.records records) listed
+          ∙ ap (λ (ns : List (List ℕ)). closing_text_on asked.townships ns c.in_ok-script.script.steps tallies c.args.stood.records records)
           script.names
-          ∙ ap (λ (n : ℕ). closing_text_on asked.townships asked.names n tallies c.args.kept records) script.steps
-          ∙ ap (λ (n : ℕ). closing_text_on asked.townships asked.names (length asked.lines) tallies n records) (sym c.requires.stood);
-      adds = λ before on so_much.
-          subst (λ (rs : List Record). IsNew (text_in c.in_ok-block.block) before (stands_on asked rs)) c.as_slice-records.ensures.slice
-          (c.in_ok-block.ensures.adds before asked
-          (subst (λ (rs : List Record). Continues before asked rs) (sym c.as_slice-records.ensures.slice) on) so_much listed script.names);
+          ∙ ap (λ (n : ℕ). closing_text_on asked.townships asked.names n tallies c.args.stood.records records) script.steps;
+      block = subst (λ (ts : List Township). IsAddedBlock c.args.stood ts asked.names records (text_in c.in_ok-block.block)) listed
+          (subst (λ (ns : List (List ℕ)). IsAddedBlock c.args.stood c.as_slice-listed.result.now ns records (text_in c.in_ok-block.block))
+          script.names
+          (subst (λ (rs : List Record). IsAddedBlock c.args.stood c.as_slice-listed.result.now
+          (map string_bytes c.in_ok-script.script.parties.keys) rs (text_in c.in_ok-block.block)) c.as_slice.ensures.slice
+          c.in_ok-block.ensures.block));
+      few = subst (λ (rs : List Record). length rs < 2 ^ 64) c.as_slice.ensures.slice (omega arith);
     }

@@ -2,7 +2,8 @@
 use Rattle.std.proofs.{Common.{◌≡◌, ◌∙◌, arith, length, map, refl}, lemmas.List.{length-map, length-reverse}}
 use Rattle.title_standing.specs.Records.{record_of}
 use Rattle.title_daybook.specs.Books.{standing_of}
-use Rattle.title_kept_office.proofs.OfficeEnds.{alike_stands, expected_is, office_unexpected, office_unopened}
+use Rattle.title_lasting.specs.Laws.Plants.{alike_stands}
+use Rattle.title_kept_office.proofs.OfficeEnds.{expected_is, office_unexpected, office_unopened}
 use Rattle.title_kept_office.proofs.office_day.run_office_onto.Goals as goal
 
 pub returns-in-Err-clause-day : goal.returns-in-Err-clause-day

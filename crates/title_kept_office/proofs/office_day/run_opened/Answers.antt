@@ -1,7 +1,8 @@
 -- No day is made of what stood, the block isn't put into the file, or the report isn't written; or all is done.
 use Rattle.std.proofs.{Common.{Err, ap}, lemmas.Result.{err_from_is_err_and}}
 use Rattle.title_daybook.specs.Books.{standing_of}
-use Rattle.title_kept_office.proofs.OfficeEnds.{block_is, office_told, office_unmade, office_unput, office_untold}
+use Rattle.title_lasting.specs.Laws.Plants.{block_is}
+use Rattle.title_kept_office.proofs.OfficeEnds.{office_told, office_unmade, office_unput, office_untold}
 use Rattle.title_kept_office.proofs.office_day.run_opened.Goals as goal
 
 pub returns-in_err-made : goal.returns-in_err-made
@@ -44,7 +45,7 @@ returns-in_err-write_closing g c =
           (g.R.Source.has_failed c.make.new.source) (g.W.Sink.has_failed c.write_closing.new.sink) expected c.make.ensures.within
           c.in_ok-made.made c.in_ok-made.ensures.made c.put_block.new.disk
           (λ none. ap g.D.Disk.seen (c.in_ok-put_block.ensures.quiet none)) c.in_ok-put_block.ensures.stands
-          c.in_ok-put_block.ensures.durable c.in_ok-put_block.ensures.any_moment (g.W.Sink.taken c.write_closing.new.sink)
+          c.in_ok-put_block.ensures.rest.durable c.in_ok-put_block.ensures.any_moment (g.W.Sink.taken c.write_closing.new.sink)
           c.in_err-write_closing.ensures.write c.in_err-write_closing.ensures.part);
     }
 
@@ -57,6 +58,6 @@ returns g c = record {
       (g.R.Source.has_failed c.make.new.source) (g.W.Sink.has_failed c.write_closing.new.sink) expected c.make.ensures.within
       c.in_ok-made.made c.in_ok-made.ensures.made c.put_block.new.disk
       (λ none. ap g.D.Disk.seen (c.in_ok-put_block.ensures.quiet none)) c.in_ok-put_block.ensures.stands
-      c.in_ok-put_block.ensures.durable c.in_ok-put_block.ensures.any_moment (g.W.Sink.taken c.write_closing.new.sink) tt
+      c.in_ok-put_block.ensures.rest.durable c.in_ok-put_block.ensures.any_moment (g.W.Sink.taken c.write_closing.new.sink) tt
       c.in_ok-made.ensures.all c.in_ok-write_closing.ensures.bytes;
 }

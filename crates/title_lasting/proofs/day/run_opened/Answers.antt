@@ -1,18 +1,11 @@
 -- No day is made of what stood, the block isn't put into the file, or the report isn't written; or all is done.
-use Rattle.std.{proofs.{Common.{ℕ, Err, None, Option, Some, IfSome, ap}, lemmas.Result.{err_from_is_err_and}}, specs.Global.{Vec}}
+use Rattle.std.proofs.{Common.{Err, ap}, lemmas.Result.{err_from_is_err_and}}
 use Rattle.title_disk.specs.{Crashes.{LeavesOnly}, Laws.Moments.{weakened}}
-use Rattle.title_journal.specs.{Blocks.{IsBlock}, Rest.{StandsAlike}}
-use Rattle.title_daybook.specs.{Books.{standing_of}, Standing.{Standing}}
-use Rattle.title_lasting.specs.{Kept.{text_in}, Made.{Adds}, Openings.{StandsAs}}
-use Rattle.title_lasting.specs.Laws.Plants.{alike_stands}
+use Rattle.title_journal.specs.Rest.{StandsAlike}
+use Rattle.title_daybook.specs.Books.{standing_of}
+use Rattle.title_lasting.specs.{Openings.{StandsAs}, Laws.Plants.{alike_stands, block_is}}
 use Rattle.title_lasting.proofs.{FileOpened.{untouched}, Endings.{ends_told, ends_unmade, ends_unput, ends_untold}}
 use Rattle.title_lasting.proofs.day.run_opened.Goals as goal
-
--- what a day adds is a block
-block_is : (block : Option (Vec ℕ)) (before after : Standing) → Adds (text_in block) before after
-    → IfSome block (λ text. IsBlock text.items)
-block_is None before after adds = tt
-block_is (Some text) before after adds = adds.0
 
 pub returns-in_err-made : goal.returns-in_err-made
 returns-in_err-made g c =
@@ -32,7 +25,7 @@ returns-in_err-made g c =
     }
 
 pub put_block-requires-clause-block : goal.put_block-requires-clause-block
-put_block-requires-clause-block g c = block_is c.in_ok-made.made.block _ _ c.in_ok-made.ensures.made.adds
+put_block-requires-clause-block g c = block_is c.in_ok-made.made.block _ _ c.in_ok-made.ensures.made.is_new.adds
 
 pub returns-in_err-put_block : goal.returns-in_err-put_block
 returns-in_err-put_block g c =
@@ -65,7 +58,7 @@ returns-in_err-write_served g c =
           (LeavesOnly g.D.Disk.moment g.D.Disk.left_since disk new) (weakened g.D.Disk.moment g.D.Disk.left_since disk new)
           c.in_ok-made.made c.in_ok-made.ensures.made (g.D.Disk.seen new) (g.D.Disk.may_leave new)
           (λ none. ap g.D.Disk.seen (c.in_ok-put_block.ensures.quiet none)) c.in_ok-put_block.ensures.stands
-          c.in_ok-put_block.ensures.durable c.in_ok-put_block.ensures.any_moment (g.W.Sink.taken c.write_served.new.sink)
+          c.in_ok-put_block.ensures.rest.durable c.in_ok-put_block.ensures.any_moment (g.W.Sink.taken c.write_served.new.sink)
           c.in_err-write_served.ensures.write c.in_err-write_served.ensures.part);
     }
 
@@ -82,6 +75,6 @@ returns g c =
           (LeavesOnly g.D.Disk.moment g.D.Disk.left_since disk new) (weakened g.D.Disk.moment g.D.Disk.left_since disk new)
           c.in_ok-made.made c.in_ok-made.ensures.made (g.D.Disk.seen new) (g.D.Disk.may_leave new)
           (λ none. ap g.D.Disk.seen (c.in_ok-put_block.ensures.quiet none)) c.in_ok-put_block.ensures.stands
-          c.in_ok-put_block.ensures.durable c.in_ok-put_block.ensures.any_moment (g.W.Sink.taken c.write_served.new.sink)
+          c.in_ok-put_block.ensures.rest.durable c.in_ok-put_block.ensures.any_moment (g.W.Sink.taken c.write_served.new.sink)
           tt c.in_ok-made.ensures.all c.in_ok-write_served.ensures.bytes;
     }

@@ -30,16 +30,16 @@ join-requires g c =
 pub returns-clause-footing : goal.returns-clause-footing
 returns-clause-footing g c =
     let s = standing_of c.args.stands in
-    let many = c.len-kept.ensures ∙ c.args.stands.deeds.ok.0 ∙ sym (many_deeds c.args.stands.deeds.items) in
     record {
       asked = c.in_ok-plan.ensures.asked;
       opens = c.in_ok-plan.ensures.opens;
       served = subst (λ (ts : List Township). HasServed ts s.records c.in_ok-desk.desk.value) c.deref.ensures.value
           c.in_ok-desk.ensures.served;
-      townships_stood = c.len.ensures ∙ c.args.stands.townships.ok.0;
-      names_stood = c.len-2.ensures.len ∙ sym (length-map c.args.stands.parties.keys string_bytes);
-      records_stood = many;
-      many = many;
+      so_much = record {
+        townships = c.len.ensures ∙ c.args.stands.townships.ok.0;
+        names = c.len-2.ensures.len ∙ sym (length-map c.args.stands.parties.keys string_bytes);
+        records = c.len-3.ensures ∙ c.args.stands.deeds.ok.0 ∙ sym (many_deeds c.args.stands.deeds.items);
+      };
     }
 
 pub returns-in_err-plan-clause-why : goal.returns-in_err-plan-clause-why

@@ -1,17 +1,15 @@
--- The row at which the part begins, and those behind it that are like it.
-use Rattle.std.proofs.{Common.{◌+◌, refl, subst, arith}, lemmas.List.{length-drop}}
-use Rattle.title_plat.{specs.Parts.{IsRowOf}, proofs.Walks.{run_more, rest_of}}
+-- The run of rows that a row begins.
+use Rattle.std.proofs.Common.{arith}
+use Rattle.title_plat.proofs.Walks.{part_then, run_within}
 use Rattle.title_plat.proofs.parts.part_at.Goals as goal
+
+pub overflow_add-result-2 : goal.overflow_add-result-2
+overflow_add-result-2 c = omega (arith, run_within c.args.rows.now _ c.args.first _ c.requires.here c.run_length-count.ensures.run)
+
+pub returns-clause-within : goal.returns-clause-within
+returns-clause-within c = run_within c.args.rows.now _ c.args.first _ c.requires.here c.run_length-count.ensures.run
 
 pub returns-clause-part : goal.returns-clause-part
 returns-clause-part c =
-    let rest = rest_of c.args.rows.now (c.args.first + 1) in
-    let within = rw rest at c.run_length-count.ensures.within in
-    let alike = rw rest at c.run_length-count.ensures.alike in (
-      omega arith,
-      omega (arith, within, length-drop (c.args.first + 1) c.args.rows.now, c.requires.here),
-      run_more (IsRowOf c.index-rows-first.result.node c.index-rows-first.result.estate) c.args.rows.now c.args.first
-          c.run_length-count.result _ c.requires.here
-          (subst (IsRowOf c.index-rows-first.result.node c.index-rows-first.result.estate) c.index-rows-first.is (refl, refl))
-          alike,
-    )
+    part_then c.args.rows.now c.args.first _ c.index-rows-first.result c.requires.here c.index-rows-first.is
+    c.run_length-count.ensures.run
