@@ -2,13 +2,13 @@
 
 use std::alloc::{AllocError, Global};
 use std::fmt::{Display, Error, Formatter, Write};
+use title_cell_store::CellStore;
 use title_chain::{Answer, Ask, Record, Step};
 use title_chance::PARTIES;
 use title_desk::{Desk, may_open};
 use title_land::Township;
 use title_lock::RowLocks;
 use title_settle::Outcome;
-use title_store::CellStore;
 use title_trace::{Reply, Request};
 
 /// Where a history and the plain machine disagree first: a step, from 1, of the transaction at a place, or that a place has

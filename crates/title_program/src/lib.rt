@@ -1,4 +1,5 @@
-//! What the program does for each command line: the bytes that it writes, and the status with which it ends.
+//! What the program does for each command line: the bytes that it writes, the status with which it ends, and what a person is told
+//! on the errors where it failed.
 #![tactic(auto)]
 
 mod checking;
@@ -6,6 +7,7 @@ mod commands;
 mod desk_keeping;
 mod desk_serving;
 mod ending;
+mod explaining;
 mod fault;
 mod keeping;
 mod look_serving;
@@ -24,6 +26,7 @@ pub use commands::{obey, obey_onto, obey_words, obey_words_onto, print_tract};
 pub use desk_keeping::serve_kept_desk;
 pub use desk_serving::serve_desk;
 pub use ending::{Ending, Why};
+pub use explaining::{explain, is_desk, tell_cut};
 pub use fault::Fault;
 pub use keeping::serve_kept;
 pub use look_serving::{serve_look, serve_look_desk};

@@ -2,14 +2,12 @@
 pub mod Each
 pub mod EffectLaws
 pub mod SheetLaws
-pub mod MapLaws
 pub mod SheetHoldings
 pub mod SheetShows
-pub mod Puts
+pub mod RefusedPuts
 pub mod LoanLaws
 pub mod PlantCells
 pub mod TractNodes
-pub mod Backing
 pub mod SheetNodes
 pub mod SheetSteps
 pub mod SheetParts

@@ -6,5 +6,4 @@ pub mod RefusalLaws
 pub mod SheetShows
 pub mod SheetOrder
 pub mod DepthLaws
-pub mod CellMaps
 pub mod Laws

@@ -7,10 +7,11 @@ use crate::checks::{assert_opening, must};
 use crate::survey::{township, tract};
 use std::alloc::Global;
 use std::process::Abort;
+use title_cell_store::CellStore;
 use title_instrument::{Deed, Estate, Estates, Instrument, Quantum};
 use title_land::{Node, Tract};
 use title_share::Share;
-use title_store::{CellStore, Put, SheetRow, Store};
+use title_store::{Put, SheetRow, Store};
 use title_tree_store::TreeStore;
 
 /// A quarter of the surface passes from the United States to party 1.

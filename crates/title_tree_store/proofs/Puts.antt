@@ -10,7 +10,7 @@ use Rattle.title_instrument.specs.declared.{parts.{Estate.{Estate, TheVariants.{
 use Rattle.title_instrument.specs.{declared.owners.Effect.{Effect, TheVariants.{Done, Refused}}, Owners.{opening_owners}, Estates.{names}}
 use Rattle.title_instrument.specs.{Effect.{holding_effect, cell_effect, joined}, Laws.EffectLaws.{holding_unnamed}, Parties.{estates_of}}
 use Rattle.title_store.specs.Plants.{Plant, Failing, IsEachOnce, is_cell_of, failing_or, first_failing, done_or, plant_effect, refused_in}
-use Rattle.title_store.specs.{Plants.{Refusal, refusal_of}, Loans.{IsTaken}, Laws.MapLaws.{refused_by}}
+use Rattle.title_store.specs.{Plants.{Refusal, refusal_of}, Loans.{IsTaken}, Laws.RefusedPuts.{refused_by}}
 use Rattle.title_tree.specs.{Changes.{why_of, new_or, after}, Plots.{Plot, value_at, plot_at, fits}, Lendings.{Lending, Keeps}}
 use Rattle.title_tree.specs.Pieces.{Piece, Disjoint, Ready, Short, paths, held, swapped, taken, split_all, fresh, refusal_at}
 use Rattle.title_tree.specs.Laws.{Swaps.{paths_taken, paths_fresh}, Refusals.{none_refuses_at, some_refuses_at}}

@@ -5,12 +5,13 @@ ghost use Rattle.title_trace.specs.Due.{MayOpen};
 use crate::replies::{Tally, are_one};
 use crate::turns::Turn;
 use std::alloc::{AllocError, Global};
+use title_cell_store::CellStore;
 use title_chain::Record;
 use title_chance::{Chance, Ground, PARTIES, Reach, StepWish, TOWNSHIPS, Wish, township};
 use title_desk::{Desk, may_open};
 use title_land::Township;
 use title_lock::NodeLocks;
-use title_store::{CellStore, Store};
+use title_store::Store;
 use title_tree_store::TreeStore;
 
 /// How many lists are made, how many requests each has and how many asks alone follow them, by how many examiners, and in how many

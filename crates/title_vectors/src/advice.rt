@@ -10,7 +10,7 @@ use std::rt::Files;
 use std::sync::Wait;
 use std::thread::Threads;
 use title_device::Device;
-use title_explain::tell_cut;
+use title_program::tell_cut;
 
 // What is told: beside the answers of a desk, or else at the end.
 fn told(came: &Came) -> &[u8] {

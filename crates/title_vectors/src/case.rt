@@ -7,8 +7,7 @@ use std::sync::Wait;
 use std::thread::Threads;
 use title_advice::{Aside, Audience, Heard, Listened, Spoken};
 use title_device::Device;
-use title_explain::{explain, is_desk};
-use title_program::{Unwatched, obey_words};
+use title_program::{Unwatched, explain, is_desk, obey_words};
 
 /// What is printed, and the status after it.
 #[derive(Debug, PartialEq, Eq, Drop)]

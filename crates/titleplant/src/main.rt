@@ -7,9 +7,8 @@ use std::process::ExitCode;
 use std::{env, io};
 use title_advice::{Aside, Audience, Heard, Listened, Progress, Spoken};
 use title_device::{Device, Sink};
-use title_explain::{explain, is_desk, tell_cut};
 use title_file::Drawer;
-use title_program::{WordsFault, obey_words_onto, refuse_untaken};
+use title_program::{WordsFault, explain, is_desk, obey_words_onto, refuse_untaken, tell_cut};
 
 /// What stands in a plant's file that is made: its head line, and a closed gate.
 const NEW_PLANT: &[u8] = b"titleplant plant 1\n-";

@@ -2,7 +2,7 @@
 use Rattle.std.proofs.Common.{ap, refl, sym, ◌∙◌, Option}
 use Rattle.std.specs.Prelude.{unwrap_or}
 use Rattle.title_land.specs.declared.node.Node.{Node}
-use Rattle.title_store.specs.Laws.Puts.{refused_put}
+use Rattle.title_store.specs.Laws.RefusedPuts.{refused_put}
 use Rattle.title_tree_store.specs.Forests.{plots}
 use Rattle.title_tree_store.proofs.{Contents.{for_each}, Puts.{found_failing, none_refused}}
 use Rattle.title_land.specs.declared.node.Node.TheVariants as node

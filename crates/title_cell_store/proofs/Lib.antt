@@ -1,0 +1,4 @@
+pub mod LentLaws
+pub mod MapLaws
+pub mod Backing
+pub mod Puts
