@@ -12,10 +12,10 @@ use title_script::{RunFault, Schedule, Unwatched, run_by};
 pub const GOVERNMENT: &str = "UNITED STATES";
 
 /// The letters of the estates, in order.
-pub const ESTATES: [&str; 3] = ["S", "O", "M"];
+pub static ESTATES: [&str; 3] = ["S", "O", "M"];
 
 /// Those of minerals.
-pub const MINERALS: [&str; 2] = ["O", "M"];
+pub static MINERALS: [&str; 2] = ["O", "M"];
 
 /// A script as it is made, row by row, and the report that it has to have. Once a row finds no memory, the script isn't run.
 #[derive(Drop)]

@@ -70,18 +70,36 @@ impl Drop for Clerk {
     }
 }
 
-// Why a call is refused, in the words of a report.
-fn write_denial<W: fmt::Write>(why: Denial, f: &mut fmt::Formatter<W>) -> fmt::Result {
-    match why {
-        Denial::NotOpen => write!(f, "notopen"),
-        Denial::AlreadyOpen => write!(f, "alreadyopen"),
-        Denial::NoSuchTownship => write!(f, "notownship"),
-        Denial::Invalid(cause) => {
-            let cause = cause.number();
-            write!(f, "invalid,{cause}")
-        }
-        Denial::TooLong => write!(f, "toolong"),
-        Denial::Conflict(other) => write!(f, "conflict,{other}"),
+// A reply in one word of a report.
+fn word_of(reply: &Reply) -> &'static str {
+    match reply {
+        Reply::Began => "began",
+        Reply::Answered(Answer::Rows(_)) => "sheet",
+        Reply::Answered(Answer::Entries(_)) => "chain",
+        Reply::Answered(Answer::Posted) => "posted",
+        Reply::Answered(Answer::Refused(_, _, _)) => "refused",
+        Reply::Committed(_) => "committed",
+        Reply::Aborted => "aborted",
+        Reply::Denied(Denial::NotOpen) => "notopen",
+        Reply::Denied(Denial::AlreadyOpen) => "alreadyopen",
+        Reply::Denied(Denial::NoSuchTownship) => "notownship",
+        Reply::Denied(Denial::Invalid(_)) => "invalid",
+        Reply::Denied(Denial::TooLong) => "toolong",
+        Reply::Denied(Denial::Conflict(_)) => "conflict",
+        Reply::Memory => "want of memory",
+    }
+}
+
+// The number behind that word, where there is one.
+fn number_of(reply: &Reply) -> Option<u64> {
+    match reply {
+        Reply::Answered(Answer::Rows(rows)) => Some(rows.len() as u64),
+        Reply::Answered(Answer::Entries(entries)) => Some(entries.as_slice().len() as u64),
+        Reply::Answered(Answer::Refused(rule, _, _)) => Some(u64::from(rule.number())),
+        Reply::Committed(place) => Some(*place),
+        Reply::Denied(Denial::Invalid(cause)) => Some(u64::from(cause.number())),
+        Reply::Denied(Denial::Conflict(other)) => Some(u64::from(*other)),
+        _ => None,
     }
 }
 
@@ -91,26 +109,15 @@ struct Told<'a>(&'a Reply);
 
 impl fmt::Display for Told<'_> {
     fn fmt<W: fmt::Write>(&self, f: &mut fmt::Formatter<W>) -> fmt::Result {
-        match self.0 {
-            Reply::Began => write!(f, "began"),
-            Reply::Answered(Answer::Rows(rows)) => {
-                let count = rows.len();
-                write!(f, "sheet,{count}")
-            }
-            Reply::Answered(Answer::Entries(entries)) => {
-                let count = entries.as_slice().len();
-                write!(f, "chain,{count}")
-            }
-            Reply::Answered(Answer::Posted) => write!(f, "posted"),
-            Reply::Answered(Answer::Refused(rule, estate, node)) => {
-                let rule = rule.number();
-                write!(f, "refused,{rule},{estate},{node}")
-            }
-            Reply::Committed(place) => write!(f, "committed,{place}"),
-            Reply::Aborted => write!(f, "aborted"),
-            Reply::Denied(why) => write_denial(*why, f),
-            Reply::Memory => write!(f, "want of memory"),
+        let (reply, word) = (self.0, word_of(self.0));
+        write!(f, "{word}")?;
+        if let Some(number) = number_of(reply) {
+            write!(f, ",{number}")?;
         }
+        if let Reply::Answered(Answer::Refused(_, estate, node)) = reply {
+            write!(f, ",{estate},{node}")?;
+        }
+        Ok(())
     }
 }
 
@@ -242,23 +249,19 @@ impl Rows {
 }
 
 // Opens a desk for these townships.
-fn open_for(
-    alloc: Global,
-    parties: u32,
-    townships: &[Township],
-) -> Result<Desk<TreeStore, NodeLocks>> {
+fn open_for(alloc: Global, parties: u32, townships: &[Township]) -> Result<Clerk> {
     if !may_open(parties, townships) {
         bail!("no desk is opened for {parties} parties");
     }
-    Ok(Desk::open(alloc, parties, townships)?)
+    let desk = Desk::open(alloc, parties, townships)?;
+    Ok(Clerk { alloc, desk })
 }
 
 impl Clerk {
     /// Opens a desk for so many parties, numbered from 0, and the first so many townships.
     pub fn open(alloc: Global, parties: u32, count: u32) -> Result<Clerk> {
         let townships = townships(alloc, count)?;
-        let desk = open_for(alloc, parties, townships.as_slice())?;
-        Ok(Clerk { alloc, desk })
+        open_for(alloc, parties, townships.as_slice())
     }
 
     /// Whether no tree could be joined to fewer nodes.

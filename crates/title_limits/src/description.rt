@@ -97,7 +97,7 @@ fn add_sheet(case: &mut Case, examiner: u32, text: &str, owner: &str) {
 
 fn add_deeds(case: &mut Case, text: &str) {
     for document in 1..=DEEDS {
-        let deed = format_args!("deed,{document},{GOVERNMENT},ADAMS,S,W1/128,,\"{text}\"");
+        let deed = format_args!("deed,{document},UNITED STATES,ADAMS,S,W1/128,,\"{text}\"");
         case.step(1, deed, "posted");
     }
     let (deed, first) = (
@@ -137,7 +137,7 @@ fn add_chain(case: &mut Case, text: &str) {
     case.step(1, chain, format_args!("chain,{DEEDS}"));
     for document in 1..=DEEDS {
         let place = document + 1;
-        case.want(format_args!("1,entry,{place},{document},deed,{GOVERNMENT},ADAMS,S"));
+        case.want(format_args!("1,entry,{place},{document},deed,UNITED STATES,ADAMS,S"));
     }
 }
 
@@ -153,12 +153,12 @@ fn alone(alloc: Global, text: &str) -> Result<Tried> {
     case.run(Schedule::Serial)
 }
 
-const BEGIN: [(&str, &str); 2] = [("1,begin", "1,began"), ("2,begin", "2,began")];
+static BEGIN: [(&str, &str); 2] = [("1,begin", "1,began"), ("2,begin", "2,began")];
 
 // Examiner 1 posts in the tract, and reads it; it is in the way there, and not beside the tract.
 fn add_post(case: &mut Case, text: &str) {
     case.steps(&BEGIN);
-    let deed = format_args!("deed,1,{GOVERNMENT},ADAMS,S,W1/1,,\"{text}\"");
+    let deed = format_args!("deed,1,UNITED STATES,ADAMS,S,W1/1,,\"{text}\"");
     case.step(1, deed, "posted");
     case.step(2, format_args!("sheet,\"{text}\""), "conflict,1");
     case.sheet_unsold(2, Parcel::cell(255));
@@ -167,7 +167,7 @@ fn add_post(case: &mut Case, text: &str) {
 
 // It aborts, and leaves nothing; examiner 2 reads the tract, and is in the way of a post in its second cell, and not in the fourth
 // one, which lies beside the tract.
-const POSTS: [(&str, &str); 5] = [
+static POSTS: [(&str, &str); 5] = [
     ("1,begin", "1,began"),
     (
         "1,deed,2,UNITED STATES,BELL,S,W1/1,,T1N R1W sec 1 NW1/4NE1/4NE1/4NE1/4",

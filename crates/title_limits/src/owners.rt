@@ -15,9 +15,6 @@ const UNIT: Portion = Portion(1, 4_294_967_296);
 
 const LEFT: Portion = Portion(1_048_575, 1_048_576);
 
-// The share of which each party is given one unit by one deed.
-const QUANTUM: &str = "W1/4294967296";
-
 // An owner by its number; in text its name, as a row has it: one of eight has a comma, and is in quotes.
 #[derive(Clone, Copy)]
 struct Owner(u32);
@@ -40,11 +37,12 @@ fn declare_owners(case: &mut Case) {
     }
 }
 
+// Each is given one unit by one deed.
 fn add_deeds(case: &mut Case) {
     let cell = Parcel::cell(0);
     for number in 1..=OWNERS {
         let owner = Owner(number);
-        let deed = format_args!("deed,1,{GOVERNMENT},{owner},S,{QUANTUM},,{cell}");
+        let deed = format_args!("deed,1,UNITED STATES,{owner},S,W1/4294967296,,{cell}");
         case.step(1, deed, "posted");
     }
 }
@@ -61,7 +59,7 @@ fn add_sheet(case: &mut Case) {
 }
 
 // Deeds that pass nothing, or are refused: of all that is left less all of it, of the whole, of half of a unit.
-const MORE: [(&str, &str); 3] = [
+static MORE: [(&str, &str); 3] = [
     (
         "1,deed,2,UNITED STATES,OWNER 2,S,W1/2,S1/2,T1N R1W sec 1 NE1/4NE1/4NE1/4NE1/4",
         "1,posted",

@@ -68,7 +68,7 @@ fn cell(number: u32) -> Parcel {
 fn add_deeds(case: &mut Case) {
     for number in 0..SOLD {
         let (name, cell) = (buyer(number), cell(number));
-        let deed = format_args!("deed,1,{GOVERNMENT},{name},S,W1/1,,{cell}");
+        let deed = format_args!("deed,1,UNITED STATES,{name},S,W1/1,,{cell}");
         case.step(1, deed, "posted");
     }
 }
@@ -99,7 +99,7 @@ fn add_sheet(case: &mut Case) {
 
 // Wants the row of a deed in a chain, which stands in a record of its own.
 fn want_deed(case: &mut Case, record: u32, name: impl Display + Drop) {
-    case.want(format_args!("1,entry,{record},1,deed,{GOVERNMENT},{name},S"));
+    case.want(format_args!("1,entry,{record},1,deed,UNITED STATES,{name},S"));
 }
 
 // Wants the rows of the releases in a chain, behind the deeds.
@@ -174,7 +174,7 @@ fn add_small_deeds(case: &mut Case) {
     let cell = Parcel::cell(0);
     for number in 1..=QUOTED {
         let name = Quoted(number);
-        let deed = format_args!("deed,1,{GOVERNMENT},{name},S,W1/4096,,{cell}");
+        let deed = format_args!("deed,1,UNITED STATES,{name},S,W1/4096,,{cell}");
         case.step(1, deed, "posted");
     }
 }

@@ -78,7 +78,7 @@ fn add_deeds(case: &mut Case) {
 }
 
 // The chain of everything. Each step before is a record, so the instruments stand in the records 2, 4, 8 and 10.
-const CHAIN: [&str; 4] = [
+static CHAIN: [&str; 4] = [
     "1,entry,2,1,deed,UNITED STATES,ADAMS,SOM",
     "1,entry,4,2,deed,ADAMS,BELL,S",
     "1,entry,8,4,release,BELL,ADAMS,S",
@@ -106,7 +106,7 @@ fn alone(alloc: Global) -> Result<Tried> {
 }
 
 // A deed of everything that is in the way of examiner 2 everywhere, as in the last township, until it is undone.
-const IN_THE_WAY: [(&str, &str); 4] = [
+static IN_THE_WAY: [(&str, &str); 4] = [
     ("1,begin", "1,began"),
     ("2,begin", "2,began"),
     (
@@ -131,7 +131,7 @@ fn add_each(case: &mut Case) {
     case.step(1, "begin", "began");
     for number in 0..TOWNSHIPS {
         let parcel = Parcel::Township(number);
-        let deed = format_args!("deed,2,{GOVERNMENT},ADAMS,S,W1/1,,{parcel}");
+        let deed = format_args!("deed,2,UNITED STATES,ADAMS,S,W1/1,,{parcel}");
         case.step(1, deed, deed_reply(number));
     }
     case.step(2, "sheet,everything", "conflict,1");

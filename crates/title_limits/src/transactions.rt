@@ -26,7 +26,7 @@ const OTHERS: [(u32, u32); 6] = [(2, 1), (2, 2), (2, 3), (1, 1), (1, 2), (1, 3)]
 
 fn add_deed(case: &mut Case, document: u32, reply: &str) {
     let cell = Parcel::cell(document.saturating_sub(1) % CELLS);
-    let deed = format_args!("deed,{document},{GOVERNMENT},ADAMS,S,W1/64,,{cell}");
+    let deed = format_args!("deed,{document},UNITED STATES,ADAMS,S,W1/64,,{cell}");
     case.step(1, deed, reply);
 }
 
@@ -71,7 +71,7 @@ fn add_sheet(case: &mut Case, examiner: u32, bell: u64) {
 // Wants the rows of the first transaction in a chain: all its deeds stand in record 1.
 fn want_posts(case: &mut Case, examiner: u32) {
     for document in 1..=STEPS {
-        case.want(format_args!("{examiner},entry,1,{document},deed,{GOVERNMENT},ADAMS,S"));
+        case.want(format_args!("{examiner},entry,1,{document},deed,UNITED STATES,ADAMS,S"));
     }
 }
 
@@ -86,7 +86,7 @@ fn add_own_chain(case: &mut Case) {
     case.chain(3, Parcel::section(1), STEPS + POSTS);
     want_posts(case, 3);
     for _ in 0..POSTS {
-        case.want(format_args!("3,entry,0,7,deed,{GOVERNMENT},BELL,S"));
+        case.want(format_args!("3,entry,0,7,deed,UNITED STATES,BELL,S"));
     }
 }
 
@@ -94,7 +94,7 @@ fn add_own_chain(case: &mut Case) {
 fn add_round(case: &mut Case) {
     for cell in 0..CELLS {
         let cell = Parcel::cell(cell);
-        let deed = format_args!("deed,7,{GOVERNMENT},BELL,S,W1/1024,,{cell}");
+        let deed = format_args!("deed,7,UNITED STATES,BELL,S,W1/1024,,{cell}");
         case.step(3, deed, "posted");
     }
 }

@@ -4,6 +4,7 @@ ghost use Rattle.std.specs.Prelude.{◌≡◌, ◌≤◌};
 ghost use Rattle.title_office.specs.Offices.{most_seats, opening_seats};
 ghost use Rattle.title_views.specs.Views.{most_viewers};
 
+use crate::asked::{Asked, Shows};
 use crate::checks::must;
 use std::alloc::Global;
 use std::process::Abort;
@@ -12,11 +13,8 @@ use title_chain::{Posting, SheetRows, Terms};
 use title_desk::may_open;
 use title_instrument::{Deed, Estate, Estates, Instrument, Quantum};
 use title_land::{Land, Node, Section, Township, Tract, Within};
-use title_office::{
-    Done, Ledger, Office, Opened, Outcome, Room, Seat, Settled, Slip, Unseen, Unsettled, Viewer,
-};
+use title_office::{Fault, Ledger, Office, Opened, Outcome, Room, Unseen};
 use title_share::Share;
-use title_trace::{Denial, Reply};
 
 /// All of an estate in a cell, in units.
 pub const WHOLE: u64 = 4_294_967_296;
@@ -80,162 +78,108 @@ pub fn open<B: Room, R: Wait + Abort>(
     opened.expect(rt, "the office opens")
 }
 
-/// The last of these seats.
-fn last_seat<B: Room>(rt: &impl Abort, seats: &mut Vec<Seat<B>>) -> Seat<B> {
-    seats.pop().expect(rt, "a seat")
+/// The last of these, which is taken out.
+pub fn last_of<T>(rt: &impl Abort, items: &mut Vec<T>) -> T {
+    items.pop().expect(rt, "one more")
 }
 
-/// The last of these viewers.
-pub fn last_viewer<B: Room>(rt: &impl Abort, viewers: &mut Vec<Viewer<B>>) -> Viewer<B> {
-    viewers.pop().expect(rt, "a viewer")
+/// The last of these.
+pub fn one_of<T: Drop>(rt: &impl Abort, mut items: Vec<T>) -> T {
+    last_of(rt, &mut items)
 }
 
-/// An office of one examiner, and the seat.
-pub fn one_seat<B: Room>(rt: &impl Abort, opened: Opened<B>) -> (Office<B>, Seat<B>) {
-    let Opened {
-        office,
-        mut seats,
-        viewers: _,
-    } = opened;
-    let seat = last_seat(rt, &mut seats);
-    (office, seat)
+/// The last two of these, in order.
+pub fn two_of<T: Drop>(rt: &impl Abort, mut items: Vec<T>) -> (T, T) {
+    let second = last_of(rt, &mut items);
+    let first = last_of(rt, &mut items);
+    (first, second)
 }
 
-/// An office of two examiners, and their seats, in order.
-pub fn two_seats<B: Room>(rt: &impl Abort, opened: Opened<B>) -> (Office<B>, Seat<B>, Seat<B>) {
-    let Opened {
-        office,
-        mut seats,
-        viewers: _,
-    } = opened;
-    let second = last_seat(rt, &mut seats);
-    let first = last_seat(rt, &mut seats);
-    (office, first, second)
-}
-
-/// An office of one examiner and two viewers, the seat and the viewers.
-pub fn two_viewers<B: Room>(
-    rt: &impl Abort,
-    opened: Opened<B>,
-) -> (Office<B>, Seat<B>, Viewer<B>, Viewer<B>) {
-    let Opened {
-        office,
-        mut seats,
-        mut viewers,
-    } = opened;
-    let seat = last_seat(rt, &mut seats);
-    let first = last_viewer(rt, &mut viewers);
-    let second = last_viewer(rt, &mut viewers);
-    (office, seat, first, second)
-}
-
-/// A seat's transaction.
-pub fn begin<B: Room, R: Wait + Abort>(rt: &R, office: &Office<B>, seat: Seat<B>) -> Slip<B> {
-    match office.begin(rt, seat) {
-        Ok(slip) => slip,
-        Err(_) => panic!(rt; "the seat begins"),
-    }
+/// Posts a deed of so many units in this section.
+pub fn post<O: Asked, R: Wait + Abort>(
+    rt: &R,
+    alloc: Global,
+    office: &O,
+    slip: &mut O::Slip,
+    number: u8,
+    units: u64,
+) -> Result<(), Fault> {
+    let posting = deed(rt, alloc, section(rt, alloc, number), units);
+    office.posted(rt, slip, posting)
 }
 
 /// A transaction with one deed of so many units in this section.
-pub fn begin_with_deed<B: Room, R: Wait + Abort>(
+pub fn begin_with_deed<O: Asked, R: Wait + Abort>(
     rt: &R,
     alloc: Global,
-    office: &Office<B>,
-    seat: Seat<B>,
+    office: &O,
+    seat: O::Seat,
     number: u8,
     units: u64,
-) -> Slip<B> {
-    let posting = deed(rt, alloc, section(rt, alloc, number), units);
-    let mut slip = begin(rt, office, seat);
-    office
-        .post(rt, &mut slip, posting)
-        .expect(rt, "the post is answered");
+) -> O::Slip {
+    let mut slip = office.begun(rt, seat);
+    let posted = post(rt, alloc, office, &mut slip, number, units);
+    posted.expect(rt, "the post is answered");
     slip
 }
 
-/// A slip's commit.
-pub fn commit<B: Room, R: Wait + Abort>(rt: &R, office: &Office<B>, slip: Slip<B>) -> Done<B> {
-    match office.commit(rt, slip) {
-        Ok(done) => done,
-        Err(_) => panic!(rt; "the slip commits"),
-    }
+/// A commit has this place, and its receipt tells it.
+pub fn assert_place<O: Asked, R: Abort>(rt: &R, done: &O::Done, place: u64) {
+    must(rt, O::place(done) == place, "the place");
+    must(rt, O::receipt_place(done) == place, "the receipt's place");
 }
 
-/// The outcome of a commit, and the seat.
-pub fn outcome_of<B: Room>(done: Done<B>) -> (Outcome, Seat<B>) {
-    let Done {
-        place,
-        rec,
-        seat,
-        ..
-    } = done;
-    (Outcome { place, rec }, seat)
+/// A slip is committed at this place.
+pub fn commit_at<O: Asked, R: Wait + Abort>(rt: &R, office: &O, slip: O::Slip, place: u64) {
+    let done = office.committed(rt, slip);
+    assert_place::<O, R>(rt, &done, place);
 }
 
 // A deed of all of this section's surface is committed: its outcome, and the seat.
-fn sell_section<B: Room, R: Wait + Abort>(
+fn sell_section<O: Asked, R: Wait + Abort>(
     rt: &R,
     alloc: Global,
-    office: &Office<B>,
-    seat: Seat<B>,
+    office: &O,
+    seat: O::Seat,
     number: u8,
-) -> (Outcome, Seat<B>) {
+) -> (Outcome, O::Seat) {
     let slip = begin_with_deed(rt, alloc, office, seat, number, WHOLE);
-    outcome_of(commit(rt, office, slip))
+    O::outcome(office.committed(rt, slip))
+}
+
+/// The outcomes of two examiners' commits.
+pub struct Commits {
+    pub first: Outcome,
+    pub second: Outcome,
+}
+
+// By hand, so that whoever lets one go sees one call.
+impl Drop for Commits {
+    fn drop(self) {
+        let Commits { first, second } = self;
+        drop(first);
+        drop(second);
+    }
 }
 
 /// The commits of two examiners, each of a deed of a section of its own, and the second one's seat.
-pub fn commit_two<B: Room, R: Wait + Abort>(
+pub fn commit_two<O: Asked, R: Wait + Abort>(
     rt: &R,
     alloc: Global,
-    office: &Office<B>,
-    first: Seat<B>,
-    second: Seat<B>,
-) -> ((Outcome, Outcome), Seat<B>) {
-    let (one, _) = sell_section(rt, alloc, office, first, 5);
-    let (two, seat) = sell_section(rt, alloc, office, second, 6);
-    ((one, two), seat)
-}
-
-// Sweeps an examiner: whether it had a transaction open.
-fn sweep<B: Room, R: Wait + Abort>(rt: &R, office: &Office<B>, examiner: u32) -> bool {
-    match office.sweep(rt, examiner) {
-        Reply::Aborted => true,
-        Reply::Denied(Denial::NotOpen) => false,
-        _ => panic!(rt; "a sweep aborts, or finds nothing open"),
-    }
+    office: &O,
+    first: O::Seat,
+    second: O::Seat,
+) -> (Commits, O::Seat) {
+    let (first, _) = sell_section(rt, alloc, office, first, 5);
+    let (second, seat) = sell_section(rt, alloc, office, second, 6);
+    (Commits { first, second }, seat)
 }
 
 /// Sweeps these examiners, one after another: whether each has a transaction open is told.
-pub fn assert_swept<B: Room, R: Wait + Abort>(rt: &R, office: &Office<B>, wanted: &[(u32, bool)]) {
+pub fn assert_swept<O: Asked, R: Wait + Abort>(rt: &R, office: &O, wanted: &[(u32, bool)]) {
     for (examiner, is_open) in wanted {
-        let was_open = sweep(rt, office, *examiner);
+        let was_open = office.swept(rt, *examiner);
         must(rt, was_open == *is_open, "whether it was open");
-    }
-}
-
-/// The office, once it is settled with these outcomes.
-pub fn settle<B: Room, R: Wait + Abort>(
-    rt: &R,
-    office: Office<B>,
-    outcomes: Vec<Outcome>,
-) -> Settled<B> {
-    match office.settle(outcomes) {
-        Ok(settled) => settled,
-        Err(_) => panic!(rt; "the office is settled"),
-    }
-}
-
-/// An office that can't be settled with these outcomes: it comes back, with the outcomes and the reason.
-pub fn not_settled<B: Room, R: Wait + Abort>(
-    rt: &R,
-    office: Office<B>,
-    outcomes: Vec<Outcome>,
-) -> (Office<B>, Vec<Outcome>, Unsettled) {
-    match office.settle(outcomes) {
-        Ok(_) => panic!(rt; "the office isn't settled"),
-        Err(back) => back,
     }
 }
 
@@ -254,16 +198,16 @@ pub fn assert_sold(rt: &impl Abort, sheet: &SheetRows) {
     must(rt, has_whole(sheet, 2, Estate::M, 0), "the minerals");
 }
 
-fn shows_no_sheet<B: Room>(tract: &Tract, viewer: &mut Viewer<B>) -> bool {
-    matches!(viewer.sheet(tract), Err(Unseen::Closed))
+fn shows_no_sheet<V: Shows>(tract: &Tract, viewer: &mut V) -> bool {
+    matches!(viewer.sheet_of(tract), Err(Unseen::Closed))
 }
 
-fn shows_no_record<B: Room>(viewer: &mut Viewer<B>) -> bool {
-    matches!(viewer.record(1), Err(Unseen::Closed))
+fn shows_no_record<V: Shows>(viewer: &mut V) -> bool {
+    matches!(viewer.record_at(1), Err(Unseen::Closed))
 }
 
 /// A viewer of a closed office shows nothing.
-pub fn assert_closed<B: Room>(rt: &impl Abort, tract: &Tract, viewer: &mut Viewer<B>) {
+pub fn assert_closed<V: Shows>(rt: &impl Abort, tract: &Tract, viewer: &mut V) {
     must(rt, shows_no_sheet(tract, viewer), "no sheet");
     must(rt, shows_no_record(viewer), "no record");
 }

@@ -2,44 +2,37 @@
 
 ghost use Rattle.std.specs.Prelude.{◌≡◌};
 
+use crate::asked::{Asked, Shows};
 use crate::checks::must;
-use crate::days::{
-    WHOLE, assert_closed, begin, begin_with_deed, last_viewer, one_seat, open, section, settle,
-    township,
-};
+use crate::days::{WHOLE, assert_closed, begin_with_deed, one_of, open, section, township};
 use crate::slips::abort;
 use std::alloc::Global;
 use std::marker::Brand;
 use std::process::Abort;
 use std::sync::Wait;
 use title_land::{Township, Tract};
-use title_office::{Ledger, Office, Opened, Room, Seat, Viewer};
+use title_office::{Ledger, Opened, Room};
 
 // A seat posts and aborts, begins again and aborts.
-fn abort_twice<B: Room, R: Wait + Abort>(rt: &R, alloc: Global, office: &Office<B>, seat: Seat<B>) {
+fn abort_twice<O: Asked, R: Wait + Abort>(rt: &R, alloc: Global, office: &O, seat: O::Seat) {
     let slip = begin_with_deed(rt, alloc, office, seat, 5, WHOLE);
     let seat = abort(rt, office, slip, true);
-    let slip = begin(rt, office, seat);
+    let slip = office.begun(rt, seat);
     abort(rt, office, slip, true);
 }
 
 // The office is settled with no outcome, and has no record.
-fn assert_nothing<B: Room, R: Wait + Abort>(rt: &R, alloc: Global, office: Office<B>) {
-    let settled = settle(rt, office, Vec::new(alloc));
-    let records = settled.close(rt);
+fn assert_nothing<O: Asked, R: Wait + Abort>(rt: &R, alloc: Global, office: O) {
+    let settled = office.settled(rt, Vec::new(alloc));
+    let records = O::records(settled, rt);
     must(rt, records.as_slice().is_empty(), "no record");
 }
 
 // A viewer shows a sheet, until the office is closed.
-fn close_shown<B: Room, R: Wait + Abort>(
-    rt: &R,
-    tract: &Tract,
-    office: Office<B>,
-    viewer: &mut Viewer<B>,
-) {
-    must(rt, viewer.sheet(tract).is_ok(), "a sheet");
-    office.close(rt);
-    assert_closed(rt, tract, viewer);
+fn close_shown<O: Asked, R: Wait + Abort>(rt: &R, tract: &Tract, office: O, mut viewer: O::Viewer) {
+    must(rt, viewer.sheet_of(tract).is_ok(), "a sheet");
+    office.closed(rt);
+    assert_closed(rt, tract, &mut viewer);
 }
 
 // An office of one examiner, which is settled.
@@ -52,9 +45,12 @@ fn settled_day<B: Room, R: Wait + Abort>(
     requires book { ledger ≡ B.book }
     requires setting { B.setting ≡ record { parties = 2; townships = townships.now } }
 {
-    let opened = open::<B, R>(rt, alloc, ledger, townships, 1, 0);
-    let (office, seat) = one_seat(rt, opened);
-    abort_twice(rt, alloc, &office, seat);
+    let Opened {
+        office,
+        seats,
+        viewers: _,
+    } = open::<B, R>(rt, alloc, ledger, townships, 1, 0);
+    abort_twice(rt, alloc, &office, one_of(rt, seats));
     assert_nothing(rt, alloc, office);
 }
 
@@ -68,14 +64,12 @@ fn closed_day<B: Room, R: Wait + Abort>(
     requires book { ledger ≡ B.book }
     requires setting { B.setting ≡ record { parties = 2; townships = townships.now } }
 {
-    let opened = open::<B, R>(rt, alloc, ledger, townships, 1, 1);
     let Opened {
         office,
         seats: _,
-        mut viewers,
-    } = opened;
-    let mut viewer = last_viewer(rt, &mut viewers);
-    close_shown(rt, &section(rt, alloc, 5), office, &mut viewer);
+        viewers,
+    } = open::<B, R>(rt, alloc, ledger, townships, 1, 1);
+    close_shown(rt, &section(rt, alloc, 5), office, one_of(rt, viewers));
 }
 
 #[test]

@@ -2,15 +2,16 @@
 
 ghost use Rattle.std.specs.Prelude.{◌≡◌};
 
+use crate::asked::Asked;
 use crate::checks::must;
-use crate::days::{commit_two, not_settled, open, settle, township, two_seats};
+use crate::days::{Commits, commit_two, open, township, two_of};
 use std::alloc::Global;
 use std::marker::Brand;
 use std::process::Abort;
 use std::sync::Wait;
 use title_chain::Record;
 use title_land::Township;
-use title_office::{Ledger, Office, Outcome, Room, Unsettled};
+use title_office::{Ledger, Opened, Outcome, Room, Unsettled};
 
 // A record with this examiner and the steps of this outcome's record.
 fn mixed(rt: &impl Abort, alloc: Global, examiner: u32, steps_of: &Outcome) -> Record {
@@ -46,16 +47,17 @@ fn outcomes(
 }
 
 // The office can't be settled with a record at the first place that has this examiner and these steps.
-fn assert_different<B: Room, R: Wait + Abort>(
+fn assert_different<O: Asked, R: Wait + Abort>(
     rt: &R,
     alloc: Global,
-    office: Office<B>,
-    commits: &(Outcome, Outcome),
+    office: O,
+    commits: &Commits,
     examiner: u32,
     steps_of: &Outcome,
-) -> Office<B> {
+) -> O {
     let rec = mixed(rt, alloc, examiner, steps_of);
-    let (office, _, why) = not_settled(rt, office, outcomes(rt, alloc, rec, &commits.1, true));
+    let outcomes = outcomes(rt, alloc, rec, &commits.second, true);
+    let (office, _, why) = office.unsettled(rt, outcomes);
     must(rt, why == Unsettled::Different(1), "different");
     office
 }
@@ -70,27 +72,28 @@ fn assert_examiners(rt: &impl Abort, records: &[Record]) {
 }
 
 // The records of the settled office stand in the order of their commits, whatever the order of the outcomes.
-fn assert_in_order<B: Room, R: Wait + Abort>(
-    rt: &R,
-    alloc: Global,
-    office: Office<B>,
-    commits: &(Outcome, Outcome),
-) {
-    let rec = mixed(rt, alloc, 1, &commits.0);
-    let settled = settle(rt, office, outcomes(rt, alloc, rec, &commits.1, false));
-    assert_examiners(rt, settled.close(rt).as_slice());
+fn assert_in_order<O: Asked, R: Wait + Abort>(rt: &R, alloc: Global, office: O, commits: &Commits) {
+    let rec = mixed(rt, alloc, 1, &commits.first);
+    let settled = office.settled(rt, outcomes(rt, alloc, rec, &commits.second, false));
+    assert_examiners(rt, O::records(settled, rt).as_slice());
 }
 
 // First with the second one's steps, then with the second examiner, then as it is.
-fn settle_at_last<B: Room, R: Wait + Abort>(
+fn settle_at_last<O: Asked, R: Wait + Abort>(rt: &R, alloc: Global, office: O, commits: &Commits) {
+    let office = assert_different(rt, alloc, office, commits, 1, &commits.second);
+    let office = assert_different(rt, alloc, office, commits, 2, &commits.first);
+    assert_in_order(rt, alloc, office, commits);
+}
+
+fn commit_and_settle<O: Asked, R: Wait + Abort>(
     rt: &R,
     alloc: Global,
-    office: Office<B>,
-    commits: &(Outcome, Outcome),
+    office: O,
+    first: O::Seat,
+    second: O::Seat,
 ) {
-    let office = assert_different(rt, alloc, office, commits, 1, &commits.1);
-    let office = assert_different(rt, alloc, office, commits, 2, &commits.0);
-    assert_in_order(rt, alloc, office, commits);
+    let (commits, _) = commit_two(rt, alloc, &office, first, second);
+    settle_at_last(rt, alloc, office, &commits);
 }
 
 fn records_day<B: Room, R: Wait + Abort>(
@@ -102,10 +105,13 @@ fn records_day<B: Room, R: Wait + Abort>(
     requires book { ledger ≡ B.book }
     requires setting { B.setting ≡ record { parties = 2; townships = townships.now } }
 {
-    let opened = open::<B, R>(rt, alloc, ledger, townships, 2, 0);
-    let (office, first, second) = two_seats(rt, opened);
-    let (commits, _) = commit_two(rt, alloc, &office, first, second);
-    settle_at_last(rt, alloc, office, &commits);
+    let Opened {
+        office,
+        seats,
+        viewers: _,
+    } = open::<B, R>(rt, alloc, ledger, townships, 2, 0);
+    let (first, second) = two_of(rt, seats);
+    commit_and_settle(rt, alloc, office, first, second);
 }
 
 #[test]

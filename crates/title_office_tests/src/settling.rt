@@ -2,17 +2,16 @@
 
 ghost use Rattle.std.specs.Prelude.{◌≡◌};
 
+use crate::asked::Asked;
 use crate::checks::must;
-use crate::days::{
-    WHOLE, begin_with_deed, commit_two, not_settled, open, settle, township, two_seats,
-};
+use crate::days::{Commits, WHOLE, begin_with_deed, commit_two, open, township, two_of};
 use crate::slips::abort;
 use std::alloc::Global;
 use std::marker::Brand;
 use std::process::Abort;
 use std::sync::Wait;
 use title_land::Township;
-use title_office::{Ledger, Office, Outcome, Room, Slip, Unsettled};
+use title_office::{Ledger, Opened, Outcome, Room, Unsettled};
 
 // An equal outcome with this place.
 fn placed(rt: &impl Abort, alloc: Global, outcome: &Outcome, place: u64) -> Outcome {
@@ -24,15 +23,19 @@ fn add(rt: &impl Abort, outcomes: &mut Vec<Outcome>, outcome: Outcome) {
     outcomes.push(outcome).expect(rt, "there is memory");
 }
 
-fn commit_of(commits: &(Outcome, Outcome), is_first: bool) -> &Outcome {
-    if is_first { &commits.0 } else { &commits.1 }
+fn commit_of(commits: &Commits, is_first: bool) -> &Outcome {
+    if is_first {
+        &commits.first
+    } else {
+        &commits.second
+    }
 }
 
 // The outcomes with these places, each the first or the second commit's.
 fn outcomes(
     rt: &impl Abort,
     alloc: Global,
-    commits: &(Outcome, Outcome),
+    commits: &Commits,
     wanted: &[(bool, u64)],
 ) -> Vec<Outcome> {
     let mut outcomes = Vec::new(alloc);
@@ -44,30 +47,30 @@ fn outcomes(
 }
 
 // The office can't be settled with these outcomes, for this reason, and comes back.
-fn assert_unsettled<B: Room, R: Wait + Abort>(
+fn assert_unsettled<O: Asked, R: Wait + Abort>(
     rt: &R,
     alloc: Global,
-    office: Office<B>,
-    commits: &(Outcome, Outcome),
+    office: O,
+    commits: &Commits,
     wanted: &[(bool, u64)],
     reason: Unsettled,
-) -> Office<B> {
-    let (office, back, why) = not_settled(rt, office, outcomes(rt, alloc, commits, wanted));
+) -> O {
+    let (office, back, why) = office.unsettled(rt, outcomes(rt, alloc, commits, wanted));
     must(rt, why == reason, "the reason");
-    must(rt, back.len() == wanted.len(), "the outcomes come back");
+    must(rt, back == wanted.len(), "the outcomes come back");
     office
 }
 
 // The office is settled with these outcomes.
-fn assert_settled<B: Room, R: Wait + Abort>(
+fn assert_settled<O: Asked, R: Wait + Abort>(
     rt: &R,
     alloc: Global,
-    office: Office<B>,
-    commits: &(Outcome, Outcome),
+    office: O,
+    commits: &Commits,
     wanted: &[(bool, u64)],
 ) {
-    let settled = settle(rt, office, outcomes(rt, alloc, commits, wanted));
-    let records = settled.close(rt);
+    let settled = office.settled(rt, outcomes(rt, alloc, commits, wanted));
+    let records = O::records(settled, rt);
     must(rt, records.as_slice().len() == 2, "two records");
 }
 
@@ -81,7 +84,7 @@ const AT_NOUGHT: [(bool, u64); 3] = [(true, 1), (false, 2), (true, 0)];
 
 const SWAPPED: [(bool, u64); 2] = [(true, 2), (false, 1)];
 
-const AS_THEY_ARE: [(bool, u64); 2] = [(false, 2), (true, 1)];
+static AS_THEY_ARE: [(bool, u64); 2] = [(false, 2), (true, 1)];
 
 // The least place at fault is told, whichever fault it is.
 const DOUBLED_BEFORE_MISSING: [(bool, u64); 2] = [(true, 1), (true, 1)];
@@ -95,7 +98,7 @@ const UNKNOWN_BEFORE_MISSING: [(bool, u64); 1] = [(true, 3)];
 
 const TWO_UNKNOWN: [(bool, u64); 3] = [(true, 4), (false, 3), (true, 1)];
 
-const REASONS: [(&[(bool, u64)], Unsettled); 10] = [
+static REASONS: [(&[(bool, u64)], Unsettled); 10] = [
     (&DOUBLED_BEFORE_MISSING, Unsettled::Doubled(1)),
     (&MISSING_BEFORE_DOUBLED, Unsettled::Missing(1)),
     (&DIFFERENT_BEFORE_MISSING, Unsettled::Different(1)),
@@ -109,13 +112,13 @@ const REASONS: [(&[(bool, u64)], Unsettled); 10] = [
 ];
 
 // Each wrong list of outcomes.
-fn assert_reasons<B: Room, R: Wait + Abort>(
+fn assert_reasons<O: Asked, R: Wait + Abort>(
     rt: &R,
     alloc: Global,
-    office: Office<B>,
-    commits: &(Outcome, Outcome),
+    office: O,
+    commits: &Commits,
     reasons: &[(&[(bool, u64)], Unsettled)],
-) -> Office<B> {
+) -> O {
     let mut office = office;
     for (wanted, reason) in reasons {
         office = assert_unsettled(rt, alloc, office, commits, wanted, *reason);
@@ -124,23 +127,23 @@ fn assert_reasons<B: Room, R: Wait + Abort>(
 }
 
 // Each wrong list of outcomes, and then the right one, in another order.
-fn settle_with_each<B: Room, R: Wait + Abort>(
+fn settle_with_each<O: Asked, R: Wait + Abort>(
     rt: &R,
     alloc: Global,
-    office: Office<B>,
-    commits: &(Outcome, Outcome),
+    office: O,
+    commits: &Commits,
 ) {
     let office = assert_reasons(rt, alloc, office, commits, &REASONS);
     assert_settled(rt, alloc, office, commits, &AS_THEY_ARE);
 }
 
 // The office isn't settled until the open slip is given up, and then only with the right outcomes.
-fn settle_at_last<B: Room, R: Wait + Abort>(
+fn settle_at_last<O: Asked, R: Wait + Abort>(
     rt: &R,
     alloc: Global,
-    office: Office<B>,
-    commits: &(Outcome, Outcome),
-    slip: Slip<B>,
+    office: O,
+    commits: &Commits,
+    slip: O::Slip,
 ) {
     let open = Unsettled::Open(2);
     let office = assert_unsettled(rt, alloc, office, commits, &AS_THEY_ARE, open);
@@ -148,7 +151,20 @@ fn settle_at_last<B: Room, R: Wait + Abort>(
     settle_with_each(rt, alloc, office, commits);
 }
 
-// An office of two examiners, of whom the second begins again after the two commits.
+// The second examiner begins again after the two commits.
+fn commit_and_settle<O: Asked, R: Wait + Abort>(
+    rt: &R,
+    alloc: Global,
+    office: O,
+    first: O::Seat,
+    second: O::Seat,
+) {
+    let (commits, seat) = commit_two(rt, alloc, &office, first, second);
+    let slip = begin_with_deed(rt, alloc, &office, seat, 7, WHOLE);
+    settle_at_last(rt, alloc, office, &commits, slip);
+}
+
+// An office of two examiners.
 fn settle_day<B: Room, R: Wait + Abort>(
     rt: &R,
     alloc: Global,
@@ -158,11 +174,13 @@ fn settle_day<B: Room, R: Wait + Abort>(
     requires book { ledger ≡ B.book }
     requires setting { B.setting ≡ record { parties = 2; townships = townships.now } }
 {
-    let opened = open::<B, R>(rt, alloc, ledger, townships, 2, 0);
-    let (office, first, second) = two_seats(rt, opened);
-    let (commits, seat) = commit_two(rt, alloc, &office, first, second);
-    let slip = begin_with_deed(rt, alloc, &office, seat, 7, WHOLE);
-    settle_at_last(rt, alloc, office, &commits, slip);
+    let Opened {
+        office,
+        seats,
+        viewers: _,
+    } = open::<B, R>(rt, alloc, ledger, townships, 2, 0);
+    let (first, second) = two_of(rt, seats);
+    commit_and_settle(rt, alloc, office, first, second);
 }
 
 #[test]

@@ -2,44 +2,39 @@
 
 ghost use Rattle.std.specs.Prelude.{◌≡◌};
 
+use crate::asked::Asked;
 use crate::checks::must;
-use crate::days::{WHOLE, assert_swept, begin_with_deed, commit, one_seat, open, township};
+use crate::days::{WHOLE, assert_swept, begin_with_deed, commit_at, one_of, open, township};
 use std::alloc::Global;
 use std::marker::Brand;
 use std::process::Abort;
 use std::sync::Wait;
 use title_land::Township;
-use title_office::{Fault, Ledger, Office, Room, Seat, Slip};
+use title_office::{Fault, Ledger, Opened, Room};
 use title_trace::Denial;
 
 /// Aborts a slip, which is open or isn't, as it should be; its seat.
-pub fn abort<B: Room, R: Wait + Abort>(
+pub fn abort<O: Asked, R: Wait + Abort>(
     rt: &R,
-    office: &Office<B>,
-    slip: Slip<B>,
+    office: &O,
+    slip: O::Slip,
     is_open: bool,
-) -> Seat<B> {
-    let Ok((seat, was_open)) = office.abort(rt, slip) else {
-        panic!(rt; "the office takes the slip");
-    };
+) -> O::Seat {
+    let (seat, was_open) = office.aborted(rt, slip);
     must(rt, was_open == is_open, "whether it was open");
     seat
 }
 
 // A slip that isn't taken comes back with this fault's text.
-fn assert_refused<B: Room, R: Wait + Abort>(
+fn assert_refused<O: Asked, R: Wait + Abort>(
     rt: &R,
-    office: &Office<B>,
-    slip: Slip<B>,
+    office: &O,
+    slip: O::Slip,
     wanted: &str,
-) -> Slip<B> {
-    match office.commit(rt, slip) {
-        Ok(_) => panic!(rt; "the slip isn't committed"),
-        Err((slip, why)) => {
-            must(rt, word(&why) == wanted, wanted);
-            slip
-        }
-    }
+) -> O::Slip {
+    let (slip, why) = office.refused(rt, slip);
+    must(rt, word(&why) == wanted, wanted);
+    slip
 }
 
 // A fault in a word.
@@ -52,56 +47,20 @@ fn word(why: &Fault) -> &'static str {
 }
 
 // A slip that is swept isn't committed, and gives the seat back.
-fn sweep_and_abort<B: Room, R: Wait + Abort>(rt: &R, office: &Office<B>, slip: Slip<B>) -> Seat<B> {
+fn sweep_and_abort<O: Asked, R: Wait + Abort>(rt: &R, office: &O, slip: O::Slip) -> O::Seat {
     assert_swept(rt, office, &[(1, true), (1, false)]);
     let slip = assert_refused(rt, office, slip, "not open");
     abort(rt, office, slip, false)
 }
 
-// A slip with a deed is aborted.
-fn abort_one<B: Room, R: Wait + Abort>(
-    rt: &R,
-    alloc: Global,
-    office: &Office<B>,
-    seat: Seat<B>,
-) -> Seat<B> {
-    let slip = begin_with_deed(rt, alloc, office, seat, 5, WHOLE);
-    abort(rt, office, slip, true)
-}
-
-// A slip with a deed is swept.
-fn sweep_one<B: Room, R: Wait + Abort>(
-    rt: &R,
-    alloc: Global,
-    office: &Office<B>,
-    seat: Seat<B>,
-) -> Seat<B> {
-    let slip = begin_with_deed(rt, alloc, office, seat, 5, WHOLE);
-    sweep_and_abort(rt, office, slip)
-}
-
-// A slip with a deed is committed.
-fn commit_one<B: Room, R: Wait + Abort>(rt: &R, alloc: Global, office: &Office<B>, seat: Seat<B>) {
-    let slip = begin_with_deed(rt, alloc, office, seat, 5, WHOLE);
-    let done = commit(rt, office, slip);
-    must(rt, done.place == 1, "the first place");
-    must(
-        rt,
-        done.receipt.place() == 1,
-        "the receipt of the first place",
-    );
-}
-
 // A slip is aborted, and its seat begins again; the next slip is swept, isn't committed, and gives the seat back.
-fn abort_and_sweep<B: Room, R: Wait + Abort>(
-    rt: &R,
-    alloc: Global,
-    office: &Office<B>,
-    seat: Seat<B>,
-) {
-    let seat = abort_one(rt, alloc, office, seat);
-    let seat = sweep_one(rt, alloc, office, seat);
-    commit_one(rt, alloc, office, seat);
+fn abort_and_sweep<O: Asked, R: Wait + Abort>(rt: &R, alloc: Global, office: &O, seat: O::Seat) {
+    let slip = begin_with_deed(rt, alloc, office, seat, 5, WHOLE);
+    let seat = abort(rt, office, slip, true);
+    let slip = begin_with_deed(rt, alloc, office, seat, 5, WHOLE);
+    let seat = sweep_and_abort(rt, office, slip);
+    let slip = begin_with_deed(rt, alloc, office, seat, 5, WHOLE);
+    commit_at(rt, office, slip, 1);
 }
 
 fn abort_day<B: Room, R: Wait + Abort>(
@@ -113,9 +72,12 @@ fn abort_day<B: Room, R: Wait + Abort>(
     requires book { ledger ≡ B.book }
     requires setting { B.setting ≡ record { parties = 2; townships = townships.now } }
 {
-    let opened = open::<B, R>(rt, alloc, ledger, townships, 1, 0);
-    let (office, seat) = one_seat(rt, opened);
-    abort_and_sweep(rt, alloc, &office, seat);
+    let Opened {
+        office,
+        seats,
+        viewers: _,
+    } = open::<B, R>(rt, alloc, ledger, townships, 1, 0);
+    abort_and_sweep(rt, alloc, &office, one_of(rt, seats));
     office.close(rt);
 }
 

@@ -3,8 +3,9 @@
 ghost use Rattle.std.specs.Prelude.{◌≡◌, [], ◌∷◌};
 ghost use Rattle.title_office.specs.Workers.{examiners_of, seat_examiners};
 
+use crate::asked::Asked;
 use crate::checks::must;
-use crate::days::{WHOLE, begin_with_deed, commit, open, township, two_seats};
+use crate::days::{WHOLE, begin_with_deed, commit_at, open, township, two_of};
 use crate::turns::script;
 use std::alloc::Global;
 use std::marker::Brand;
@@ -13,7 +14,7 @@ use std::sync::Wait;
 use std::sync::atomic::{AtomicU64, Ordering};
 use std::thread::Threads;
 use title_land::Township;
-use title_office::{Gate, Ledger, Office, Room, Script, Seat, Worked, work};
+use title_office::{Gate, Ledger, Office, Opened, Room, Script, Seat, Worked, work};
 
 /// A worker with so many tries of one transaction, a deed of this section: how often it begins, how many calls it makes, and whether
 /// the transaction is committed or given up.
@@ -147,45 +148,58 @@ fn work_alone<B: Room + Send + Sync, R: Threads + Wait + Abort + Sync>(
     }
 }
 
-fn run_case<B: Room + Send + Sync, R: Threads + Wait + Abort + Sync>(
-    rt: &R,
-    alloc: Global,
-    office: &Office<B>,
-    seat: Seat<B>,
-    case: &Case,
-) -> Seat<B> {
-    let counts = Counts::new();
-    let worked = work_alone(rt, alloc, office, seat, case, &counts);
-    assert_counts(rt, &counts, case);
-    assert_worked(rt, &worked, case);
-    seat_back(rt, worked)
+/// An office at which a worker runs a case.
+trait RunsCase: Asked {
+    /// The seat comes back.
+    fn run_case<R: Threads + Wait + Abort + Sync>(
+        &self,
+        rt: &R,
+        alloc: Global,
+        seat: Self::Seat,
+        case: &Case,
+    ) -> Self::Seat;
 }
 
-fn run_cases<B: Room + Send + Sync, R: Threads + Wait + Abort + Sync>(
+impl<B: Room + Send + Sync> RunsCase for Office<B> {
+    fn run_case<R: Threads + Wait + Abort + Sync>(
+        &self,
+        rt: &R,
+        alloc: Global,
+        seat: Seat<B>,
+        case: &Case,
+    ) -> Seat<B> {
+        let counts = Counts::new();
+        let worked = work_alone(rt, alloc, self, seat, case, &counts);
+        assert_counts(rt, &counts, case);
+        assert_worked(rt, &worked, case);
+        seat_back(rt, worked)
+    }
+}
+
+fn run_cases<O: RunsCase, R: Threads + Wait + Abort + Sync>(
     rt: &R,
     alloc: Global,
-    office: &Office<B>,
-    seat: Seat<B>,
+    office: &O,
+    seat: O::Seat,
     cases: &[Case],
 ) {
     let mut seat = seat;
     for case in cases {
-        seat = run_case(rt, alloc, office, seat, case);
+        seat = office.run_case(rt, alloc, seat, case);
     }
 }
 
 // The first examiner has section 5 all the while, and commits behind what the second one's workers committed.
-fn try_beside<B: Room + Send + Sync, R: Threads + Wait + Abort + Sync>(
+fn try_beside<O: RunsCase, R: Threads + Wait + Abort + Sync>(
     rt: &R,
     alloc: Global,
-    office: &Office<B>,
-    first: Seat<B>,
-    second: Seat<B>,
+    office: &O,
+    first: O::Seat,
+    second: O::Seat,
 ) {
     let slip = begin_with_deed(rt, alloc, office, first, 5, WHOLE);
     run_cases(rt, alloc, office, second, &CASES);
-    let done = commit(rt, office, slip);
-    must(rt, done.place == 2, "the second place");
+    commit_at(rt, office, slip, 2);
 }
 
 fn tries_day<B: Room + Send + Sync, R: Threads + Wait + Abort + Sync>(
@@ -197,8 +211,12 @@ fn tries_day<B: Room + Send + Sync, R: Threads + Wait + Abort + Sync>(
     requires book { ledger ≡ B.book }
     requires setting { B.setting ≡ record { parties = 2; townships = townships.now } }
 {
-    let opened = open::<B, R>(rt, alloc, ledger, townships, 2, 0);
-    let (office, first, second) = two_seats(rt, opened);
+    let Opened {
+        office,
+        seats,
+        viewers: _,
+    } = open::<B, R>(rt, alloc, ledger, townships, 2, 0);
+    let (first, second) = two_of(rt, seats);
     try_beside(rt, alloc, &office, first, second);
     office.close(rt);
 }

@@ -1,8 +1,8 @@
 //! Workers run beside each other: none begins before the other has come to its begin, and the first commits only once the second has
 //! made its step.
 
-ghost use Rattle.std.specs.Prelude.{◌≡◌};
-ghost use Rattle.title_office.specs.Offices.{opening_seats};
+ghost use Rattle.std.specs.Prelude.{◌≡◌, [], ◌∷◌};
+ghost use Rattle.title_office.specs.{Offices.{opening_seats}, Workers.{examiners_of}};
 
 use crate::checks::must;
 use crate::days::{WHOLE, deed, open, section, township};
@@ -113,15 +113,32 @@ pub fn script(rt: &impl Abort, alloc: Global, examiner: u32, number: u8) -> Scri
     }
 }
 
-// Each of the workers has committed its transaction.
+// A worker has committed its transaction.
+fn assert_worked<B: Room>(rt: &impl Abort, worked: &Worked<B>) {
+    must(rt, worked.fault.is_none(), "no fault");
+    must(rt, worked.seat.is_some(), "the seat comes back");
+    must(rt, worked.outcomes.len() == 1, "one outcome");
+    must(rt, worked.aborted == 0, "none aborted");
+    must(rt, worked.given_up == 0, "none given up");
+}
+
+// Each of the two workers has.
 fn assert_done<B: Room>(rt: &impl Abort, worked: &[Worked<B>]) {
     must(rt, worked.len() == 2, "two workers");
     for each in worked {
-        must(rt, each.fault.is_none(), "no fault");
-        must(rt, each.seat.is_some(), "the seat comes back");
-        must(rt, each.outcomes.len() == 1, "one outcome");
-        must(rt, each.aborted == 0 && each.given_up == 0, "no other end");
+        assert_worked(rt, each);
     }
+}
+
+fn scripts(rt: &impl Abort, alloc: Global) -> Vec<Script>
+    ensures two { examiners_of result.items ≡ 1 ∷ 2 ∷ [] }
+{
+    let mut scripts = Vec::new(alloc);
+    let first = scripts.push(script(rt, alloc, 1, 5));
+    first.expect(rt, "there is memory");
+    let second = scripts.push(script(rt, alloc, 2, 6));
+    second.expect(rt, "there is memory");
+    scripts
 }
 
 // Two workers, each with a script of its own, in an office of two seats.
@@ -134,34 +151,13 @@ fn work_at<B: Room + Send + Sync, R: Threads + Wait + Abort + Sync>(
 )
     requires seats { seats.items ≡ opening_seats 7 2 }
 {
-    let mut scripts = Vec::new(alloc);
-    scripts
-        .push(script(rt, alloc, 1, 5))
-        .expect(rt, "there is memory");
-    scripts
-        .push(script(rt, alloc, 2, 6))
-        .expect(rt, "there is memory");
-    match work(rt, alloc, office, seats, scripts, 1, gate) {
+    match work(rt, alloc, office, seats, scripts(rt, alloc), 1, gate) {
         Ok(worked) => assert_done(rt, &worked),
         Err(_) => panic!(rt; "there is memory"),
     }
 }
 
 // Neither waits in vain.
-fn work_beside<B: Room + Send + Sync, R: Threads + Wait + Abort + Sync>(
-    rt: &R,
-    alloc: Global,
-    office: &Office<B>,
-    seats: Vec<Seat<B>>,
-)
-    requires seats { seats.items ≡ opening_seats 7 2 }
-{
-    let gate = Flags::new();
-    work_at(rt, alloc, office, seats, &gate);
-    let is_in_vain = gate.in_vain.load(Ordering::SeqCst);
-    must(rt, !is_in_vain, "none waits in vain");
-}
-
 fn turns_day<B: Room + Send + Sync, R: Threads + Wait + Abort + Sync>(
     rt: &R,
     alloc: Global,
@@ -171,14 +167,16 @@ fn turns_day<B: Room + Send + Sync, R: Threads + Wait + Abort + Sync>(
     requires book { ledger ≡ B.book }
     requires setting { B.setting ≡ record { parties = 2; townships = townships.now } }
 {
-    let opened = open::<B, R>(rt, alloc, ledger, townships, 2, 0);
+    let gate = Flags::new();
     let Opened {
         office,
         seats,
         viewers: _,
-    } = opened;
-    work_beside(rt, alloc, &office, seats);
+    } = open::<B, R>(rt, alloc, ledger, townships, 2, 0);
+    work_at(rt, alloc, &office, seats, &gate);
     office.close(rt);
+    let is_in_vain = gate.in_vain.load(Ordering::SeqCst);
+    must(rt, !is_in_vain, "none waits in vain");
 }
 
 #[test]

@@ -2,8 +2,9 @@
 
 ghost use Rattle.std.specs.Prelude.{◌≡◌};
 
+use crate::asked::{Asked, Shows};
 use crate::checks::must;
-use crate::days::{WHOLE, begin_with_deed, commit, open, section, township, two_viewers};
+use crate::days::{WHOLE, begin_with_deed, one_of, open, section, township, two_of};
 use std::alloc::Global;
 use std::marker::Brand;
 use std::process::Abort;
@@ -12,7 +13,7 @@ use std::thread::{Threads, join};
 use title_chain::SheetRows;
 use title_instrument::Estate;
 use title_land::{Township, Tract};
-use title_office::{Done, Ledger, Office, Receipt, Room, Seat, Seen, Viewer};
+use title_office::{Ledger, Office, Opened, Room, Seat, Seen, Viewer};
 
 /// How many deeds are committed.
 const DEEDS: u64 = 100;
@@ -23,32 +24,29 @@ const VIEWS: u64 = 1000;
 /// What each deed passes, in units: 1/1024 of the whole.
 const UNITS: u64 = 4_194_304;
 
-// A deed is committed: its receipt, and the seat.
-fn sell<B: Room, R: Wait + Abort>(
-    rt: &R,
-    alloc: Global,
-    office: &Office<B>,
-    seat: Seat<B>,
-) -> (Receipt<B>, Seat<B>) {
+// A deed is committed.
+fn sell<O: Asked, R: Wait + Abort>(rt: &R, alloc: Global, office: &O, seat: O::Seat) -> O::Done {
     let slip = begin_with_deed(rt, alloc, office, seat, 5, UNITS);
-    let Done { receipt, seat, .. } = commit(rt, office, slip);
-    (receipt, seat)
+    office.committed(rt, slip)
 }
 
-// All deeds are committed: the receipt of the last.
-fn sell_all<B: Room, R: Wait + Abort>(
+fn seat_of<O: Asked>(done: O::Done) -> O::Seat {
+    let (_, seat) = O::outcome(done);
+    seat
+}
+
+// All deeds are committed: the last commit.
+fn sell_all<O: Asked, R: Wait + Abort>(
     rt: &R,
     alloc: Global,
-    office: &Office<B>,
-    seat: Seat<B>,
-) -> Receipt<B> {
-    let (mut receipt, mut seat) = sell(rt, alloc, office, seat);
+    office: &O,
+    seat: O::Seat,
+) -> O::Done {
+    let mut done = sell(rt, alloc, office, seat);
     for _ in 1..DEEDS {
-        let (later, back) = sell(rt, alloc, office, seat);
-        receipt = later;
-        seat = back;
+        done = sell(rt, alloc, office, seat_of::<O>(done));
     }
-    receipt
+    done
 }
 
 // What party 0 has left of the surface after so many deeds.
@@ -74,15 +72,15 @@ fn front_after(seen: &Seen, front: u64) -> Option<u64> {
 }
 
 // The same of the next sheet that the viewer shows.
-fn next_front<B: Room>(tract: &Tract, viewer: &mut Viewer<B>, front: u64) -> Option<u64> {
-    match viewer.sheet(tract) {
+fn next_front<V: Shows>(tract: &Tract, viewer: &mut V, front: u64) -> Option<u64> {
+    match viewer.sheet_of(tract) {
         Ok(seen) => front_after(&seen, front),
         Err(_) => None,
     }
 }
 
 // Asks the viewer over and over: whether each sheet is right, and none older than the one before.
-fn watch_all<B: Room>(tract: &Tract, viewer: &mut Viewer<B>) -> bool {
+fn watch_all<V: Shows>(tract: &Tract, viewer: &mut V) -> bool {
     let mut front = 0;
     for _ in 0..VIEWS {
         let Some(next) = next_front(tract, viewer, front) else {
@@ -93,7 +91,7 @@ fn watch_all<B: Room>(tract: &Tract, viewer: &mut Viewer<B>) -> bool {
     true
 }
 
-fn watch<B: Room>(tract: &Tract, mut viewer: Viewer<B>) -> bool {
+fn watch<V: Shows + Drop>(tract: &Tract, mut viewer: V) -> bool {
     watch_all(tract, &mut viewer)
 }
 
@@ -118,16 +116,15 @@ fn assert_all_seen(rt: &impl Abort, seen: &Seen) {
 }
 
 // Once it has learnt of the last deed a viewer shows all of them.
-fn assert_all_shown<B: Room>(
-    rt: &impl Abort,
+fn assert_all_shown<O: Asked, R: Abort>(
+    rt: &R,
     tract: &Tract,
-    viewer: &mut Viewer<B>,
-    receipt: &Receipt<B>,
+    viewer: &mut O::Viewer,
+    done: &O::Done,
 ) {
-    viewer
-        .learn(receipt)
-        .expect(rt, "the viewer learns of the last deed");
-    let seen = viewer.sheet(tract);
+    let learnt = O::learnt(viewer, done);
+    learnt.expect(rt, "the viewer learns of the last deed");
+    let seen = viewer.sheet_of(tract);
     assert_all_seen(rt, &seen.expect(rt, "the viewer shows the last sheet"));
 }
 
@@ -135,20 +132,19 @@ fn assert_all_shown<B: Room>(
 fn sell_and_watch<B: Room + Send + Sync, R: Threads + Wait + Abort + Sync>(
     rt: &R,
     alloc: Global,
+    land: &Tract,
     office: &Office<B>,
     seat: Seat<B>,
     watching: Viewer<B>,
-    mut learning: Viewer<B>,
+    learning: &mut Viewer<B>,
 ) {
-    let tract = section(rt, alloc, 5);
-    let land = &tract;
-    let (is_right, receipt) = join(
+    let (is_right, done) = join(
         rt,
         || watch(land, watching),
         || sell_all(rt, alloc, office, seat),
     );
     must(rt, is_right, "each sheet is right, none older");
-    assert_all_shown(rt, &tract, &mut learning, &receipt);
+    assert_all_shown::<Office<B>, R>(rt, land, learning, &done);
 }
 
 // An office of one examiner and two viewers.
@@ -161,9 +157,15 @@ fn watching_day<B: Room + Send + Sync, R: Threads + Wait + Abort + Sync>(
     requires book { ledger ≡ B.book }
     requires setting { B.setting ≡ record { parties = 2; townships = townships.now } }
 {
-    let opened = open::<B, R>(rt, alloc, ledger, townships, 1, 2);
-    let (office, seat, learning, watching) = two_viewers(rt, opened);
-    sell_and_watch(rt, alloc, &office, seat, watching, learning);
+    let Opened {
+        office,
+        seats,
+        viewers,
+    } = open::<B, R>(rt, alloc, ledger, townships, 1, 2);
+    let (watching, mut learning) = two_of(rt, viewers);
+    let land = section(rt, alloc, 5);
+    let seat = one_of(rt, seats);
+    sell_and_watch(rt, alloc, &land, &office, seat, watching, &mut learning);
     office.close(rt);
 }
 

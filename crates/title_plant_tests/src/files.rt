@@ -3,9 +3,9 @@
 ghost use Rattle.std.specs.Prelude.{◌<◌, ◌^◌, length};
 ghost use Rattle.title_journal.specs.{Blocks.{front}, Rest.{texts_of}};
 
-use indexmap::IndexSet;
-use std::alloc::{AllocError, Global};
-use std::fmt::Write;
+use crate::checks::must;
+use std::alloc::Global;
+use std::fmt::{Display, Write};
 use std::process::Abort;
 use title_chain::{Answer, Ask, Posting, Record, Step, Steps};
 use title_daybook::{PlantFault, Standing, Stood, block, read_standing, row_of};
@@ -78,10 +78,7 @@ fn read_blocks(rt: &impl Abort, alloc: Global, blocks: &[&str]) -> Blocks
     ensures fits { length (front (texts_of result)) < 2 ^ 63 }
 {
     let mut disk = TornDisk::new(alloc, file_of(rt, alloc, blocks), None);
-    match read(alloc, &mut disk) {
-        Ok(found) => found,
-        Err(_) => panic!(rt; "the file is no plant"),
-    }
+    read(alloc, &mut disk).expect(rt, "the file is a plant")
 }
 
 // What stands in a file with these blocks.
@@ -90,67 +87,79 @@ fn standing_in(rt: &impl Abort, alloc: Global, blocks: &[&str]) -> Standing {
     read_standing(alloc, &found).expect(rt, "the rows stand")
 }
 
-fn tell_post(posting: &Posting, told: &mut String) -> Result<(), AllocError> {
+// Adds a line for each.
+fn tell_each<T: Display>(rt: &impl Abort, items: &[T], told: &mut String) {
+    for item in items {
+        writeln!(told, "{item}").expect(rt, "there is memory");
+    }
+}
+
+fn tell_post(rt: &impl Abort, posting: &Posting, told: &mut String) {
     let terms = posting.terms();
     let cover = terms.tract.cover();
-    write!(told, "{} {:?} {}", terms.doc, terms.instrument, cover.len())?;
-    if let Some(node) = cover.first() {
-        write!(told, " {node}")?;
-    }
-    told.push('\n')
+    let node = cover.first().expect(rt, "a node");
+    let line = writeln!(
+        told,
+        "{} {:?} {} {node}",
+        terms.doc,
+        terms.instrument,
+        cover.len()
+    );
+    line.expect(rt, "there is memory");
 }
 
-fn tell_deeds(deeds: &Deeds, told: &mut String) -> Result<(), AllocError> {
-    writeln!(told, "examiner {}", deeds.examiner)?;
+fn tell_deeds(rt: &impl Abort, deeds: &Deeds, told: &mut String) {
+    writeln!(told, "examiner {}", deeds.examiner).expect(rt, "there is memory");
     for posting in &deeds.posts {
-        tell_post(posting, told)?;
+        tell_post(rt, posting, told);
     }
-    Ok(())
 }
 
-fn tell_names(parties: &IndexSet<String>, told: &mut String) -> Result<(), AllocError> {
-    for party in 0..parties.len() {
-        if let Some(name) = parties.get_index(party) {
-            writeln!(told, "{name}")?;
-        }
-    }
-    Ok(())
-}
-
-fn tell(alloc: Global, stands: &Standing) -> Result<String, AllocError> {
-    let mut told = String::new(alloc);
-    for township in &stands.townships {
-        writeln!(told, "{township}")?;
-    }
-    tell_names(&stands.parties, &mut told)?;
+fn tell_all(rt: &impl Abort, stands: &Standing, told: &mut String) {
+    tell_each(rt, &stands.townships, told);
+    tell_each(rt, stands.parties.as_slice(), told);
     for deeds in &stands.deeds {
-        tell_deeds(deeds, &mut told)?;
+        tell_deeds(rt, deeds, told);
     }
-    Ok(told)
+}
+
+fn tell(rt: &impl Abort, alloc: Global, stands: &Standing) -> String {
+    let mut told = String::new(alloc);
+    tell_all(rt, stands, &mut told);
+    told
+}
+
+fn assert_told(rt: &impl Abort, alloc: Global, stands: &Standing) {
+    let told = tell(rt, alloc, stands);
+    must(rt, told.as_str() == STANDS, told.as_str());
 }
 
 #[test]
 fn a_file_stands_for_its_rows(rt: HostRuntime) {
     let stands = standing_in(&rt, rt.alloc(), &[FIRST, SECOND]);
-    let told = tell(rt.alloc(), &stands).expect(&rt, "there is memory");
-    assert!(rt; told.as_str() == STANDS, "{told}");
+    assert_told(&rt, rt.alloc(), &stands);
 }
 
 // ---- rows
 
+// The row of a fault; 0 where there is none.
+fn row_in(rt: &impl Abort, fault: Option<PlantFault>) -> usize {
+    match fault {
+        None => 0,
+        Some(PlantFault::Row(n)) => n,
+        Some(PlantFault::Memory) => panic!(rt; "there is memory"),
+    }
+}
+
 // The row at fault of a file with this block; 0 where there is none.
 fn row_at_fault(rt: &impl Abort, alloc: Global, text: &str) -> usize {
     let found = read_blocks(rt, alloc, &[text]);
-    match read_standing(alloc, &found) {
-        Ok(_) => 0,
-        Err(PlantFault::Row(n)) => n,
-        Err(PlantFault::Memory) => panic!(rt; "there is memory"),
-    }
+    row_in(rt, read_standing(alloc, &found).err())
 }
 
 fn assert_at_fault(rt: &impl Abort, alloc: Global, blocks: &[(&str, usize)]) {
     for (text, row) in blocks {
-        assert!(rt; row_at_fault(rt, alloc, text) == *row, "at {text}");
+        must(rt, row_at_fault(rt, alloc, text) == *row, text);
     }
 }
 
@@ -158,7 +167,7 @@ fn assert_at_fault(rt: &impl Abort, alloc: Global, blocks: &[(&str, usize)]) {
 const QUOTED: &str = "\"party\",ADAMS\n\"4\",\"begin\"\n4,\"commit\"\nend,1\n";
 
 // Blocks, and the rows at fault: the head is row 1, and the gate row 2.
-const BLOCKS: [(&str, usize); 15] = [
+static BLOCKS: [(&str, usize); 15] = [
     ("end,0\n", 0),
     (QUOTED, 0),
     ("party,\"end,1\"\n1,begin\n1,commit\nend,1\n", 0),
@@ -186,64 +195,82 @@ fn a_row_at_fault_has_its_number(rt: HostRuntime) {
 
 fn assert_rows(rt: &impl Abort, found: &Blocks, places: &[(u64, usize)]) {
     for (place, row) in places {
-        assert!(rt; row_of(found, *place) == *row, "at {place}");
+        must(rt, row_of(found, *place) == *row, "a transaction's row");
     }
 }
 
+// The transactions at these places of a file with these blocks end in these rows.
+fn assert_ends(rt: &impl Abort, alloc: Global, blocks: &[&str], places: &[(u64, usize)]) {
+    assert_rows(rt, &read_blocks(rt, alloc, blocks), places);
+}
+
 // Places, and the rows in which their transactions end.
-const PLACES: [(u64, usize); 6] = [(0, 1), (1, 6), (2, 12), (3, 16), (4, 17), (5, 0)];
+static PLACES: [(u64, usize); 6] = [(0, 1), (1, 6), (2, 12), (3, 16), (4, 17), (5, 0)];
 
 #[test]
 fn a_transaction_ends_in_its_row(rt: HostRuntime) {
-    let found = read_blocks(&rt, rt.alloc(), &[FIRST, SECOND]);
-    assert_rows(&rt, &found, &PLACES);
-    let quoted = read_blocks(&rt, rt.alloc(), &[QUOTED]);
-    assert!(rt; row_of(&quoted, 1) == 5);
+    assert_ends(&rt, rt.alloc(), &[FIRST, SECOND], &PLACES);
+    assert_ends(&rt, rt.alloc(), &[QUOTED], &[(1, 5)]);
 }
 
 // ---- writing
+
+fn step_of(rt: &impl Abort, alloc: Global, posting: &Posting) -> Step {
+    Step {
+        ask: Ask::Post(posting.copy(alloc).expect(rt, "there is memory")),
+        answer: Answer::Posted,
+    }
+}
 
 // The steps that posted these.
 fn steps_of(rt: &impl Abort, alloc: Global, posts: &[Posting]) -> Steps {
     let mut steps = Vec::new(alloc);
     for posting in posts {
-        let step = Step {
-            ask: Ask::Post(posting.copy(alloc).expect(rt, "there is memory")),
-            answer: Answer::Posted,
-        };
-        steps.push(step).expect(rt, "there is memory");
+        steps
+            .push(step_of(rt, alloc, posting))
+            .expect(rt, "there is memory");
     }
     Steps::new(steps)
 }
 
-fn records_of(rt: &impl Abort, alloc: Global, deeds: &[Deeds]) -> Vec<Record> {
+fn record_of(rt: &impl Abort, alloc: Global, deeds: &Deeds) -> Record {
+    Record {
+        examiner: deeds.examiner,
+        steps: steps_of(rt, alloc, &deeds.posts),
+    }
+}
+
+fn records_of(rt: &impl Abort, alloc: Global, kept: &[Deeds]) -> Vec<Record> {
     let mut records = Vec::new(alloc);
-    for kept in deeds {
-        let record = Record {
-            examiner: kept.examiner,
-            steps: steps_of(rt, alloc, &kept.posts),
-        };
-        records.push(record).expect(rt, "there is memory");
+    for deeds in kept {
+        records
+            .push(record_of(rt, alloc, deeds))
+            .expect(rt, "there is memory");
     }
     records
 }
 
-#[test]
-fn a_block_is_written_for_what_is_new(rt: HostRuntime) {
-    let alloc = rt.alloc();
-    let stands = standing_in(&rt, alloc, &[FIRST, SECOND]);
-    assert!(rt;
-        stands.townships.len() == 2 && stands.parties.len() == 4 && stands.deeds.len() == 4
-    );
-    let records = records_of(&rt, alloc, &stands.deeds[1..]);
+// The block of these records and of what is declared, where a township, three parties and a record stood.
+fn block_of(rt: &impl Abort, alloc: Global, stands: &Standing, records: &[Record]) -> Vec<u8> {
+    assert!(rt; stands.townships.len() == 2 && stands.parties.len() == 4);
     let stood = Stood {
         townships: 1,
         parties: 3,
         records: 1,
     };
-    let text = block(alloc, stood, &stands.townships, &stands.parties, &records).expect(
-        &rt,
-        "there is memory",
-    );
-    assert!(rt; text.as_slice() == SECOND.as_bytes());
+    let text = block(alloc, stood, &stands.townships, &stands.parties, records);
+    text.expect(rt, "there is memory")
+}
+
+fn assert_written(rt: &impl Abort, alloc: Global, stands: &Standing) {
+    assert!(rt; stands.deeds.len() == 4);
+    let records = records_of(rt, alloc, &stands.deeds[1..]);
+    let text = block_of(rt, alloc, stands, &records);
+    must(rt, text.as_slice() == SECOND.as_bytes(), "the block");
+}
+
+#[test]
+fn a_block_is_written_for_what_is_new(rt: HostRuntime) {
+    let stands = standing_in(&rt, rt.alloc(), &[FIRST, SECOND]);
+    assert_written(&rt, rt.alloc(), &stands);
 }

@@ -1,5 +1,6 @@
 //! The texts of land in a plant's file.
 
+use crate::checks::must;
 use std::alloc::Global;
 use std::process::Abort;
 use title_spelling::{read_land, spell};
@@ -12,15 +13,19 @@ fn spelled(rt: &impl Abort, alloc: Global, text: &str) -> String {
     spell(alloc, &tract).expect(rt, "there is memory")
 }
 
+fn is_spelled(rt: &impl Abort, alloc: Global, text: &str, wanted: &str) -> bool {
+    spelled(rt, alloc, text).as_str() == wanted
+}
+
 fn assert_spelled(rt: &impl Abort, alloc: Global, lands: &[(&str, &str)]) {
     for (text, wanted) in lands {
-        assert!(rt; spelled(rt, alloc, text).as_str() == *wanted, "at {text}");
+        must(rt, is_spelled(rt, alloc, text, wanted), text);
     }
 }
 
 // Texts, and how their lands are spelled: by one node, by the nodes of a cover, and by cells where that would be too long. Every other
 // column of the north half is 64 cells, of which no two are in a square. Cells begin in the northwest.
-const LANDS: [(&str, &str); 8] = [
+static LANDS: [(&str, &str); 8] = [
     ("everything", "everything"),
     ("t. 3 n., r. 2 w.", "T3N R2W"),
     ("T3N-R2W, section 5: all", "T3N R2W sec 5"),

@@ -10,7 +10,7 @@ use std::fmt::Display;
 use std::sync::Wait;
 use title_chain::{Ask, Record, Records};
 use title_ledger::Room;
-use title_office::{Done, Fault, Office, Outcome, Seat, Slip, Unsettled, Viewer};
+use title_office::{Done, Fault, Office, Outcome, Receipt, Seat, Slip, Unsettled, Viewer};
 use title_trace::Reply;
 
 /// Who asks an office, and tells what it answers.
@@ -21,6 +21,23 @@ pub struct Asker<'a, B: Room, R: Wait + Print> {
     pub office: &'a Office<B>,
 }
 
+/// What an examiner has of an office: its seat, the slip of its transaction, or what its commit came to.
+pub struct Examiner<B: Room> {
+    pub seat: Option<Seat<B>>,
+    pub slip: Option<Slip<B>>,
+    pub done: Option<Done<B>>,
+}
+
+// By hand, so that whoever lets one go sees one call.
+impl<B: Room> Drop for Examiner<B> {
+    fn drop(self) {
+        let Examiner { seat, slip, done } = self;
+        drop(seat);
+        drop(slip);
+        drop(done);
+    }
+}
+
 // What shows that a transaction isn't committed yet: how many records a viewer shows, and that the slip has its steps.
 #[derive(Clone, Copy)]
 struct Before {
@@ -28,30 +45,31 @@ struct Before {
     is_as_it_was: bool,
 }
 
-fn begun<B: Room>(answer: Result<Slip<B>, (Seat<B>, Fault)>) -> Result<Slip<B>, Fault> {
+// Puts what an office gave where it belongs, or puts back what it didn't take.
+fn put<T: Drop, E: Drop>(
+    answer: Result<T, (E, Fault)>,
+    given: &mut Option<T>,
+    back: &mut Option<E>,
+) -> Result<(), Fault> {
     match answer {
-        Ok(slip) => Ok(slip),
-        Err((_, why)) => Err(why),
+        Ok(value) => {
+            *given = Some(value);
+            Ok(())
+        }
+        Err((value, why)) => {
+            *back = Some(value);
+            Err(why)
+        }
     }
 }
 
-fn committed<B: Room>(answer: Result<Done<B>, (Slip<B>, Fault)>) -> Result<Done<B>, Fault> {
+// Puts back the seat of a transaction that is aborted: whether it was open.
+fn put_back<T: Drop, E: Drop>(answer: Result<(T, bool), E>, seat: &mut Option<T>) -> Result<bool> {
     match answer {
-        Ok(done) => Ok(done),
-        Err((_, why)) => Err(why),
-    }
-}
-
-fn refused<B: Room>(answer: Result<Done<B>, (Slip<B>, Fault)>) -> Result<(Slip<B>, Fault)> {
-    match answer {
-        Ok(_) => bail!("a slip whose examiner was swept was committed"),
-        Err(back) => Ok(back),
-    }
-}
-
-fn aborted<B: Room>(answer: Result<(Seat<B>, bool), (Slip<B>, Fault)>) -> Result<(Seat<B>, bool)> {
-    match answer {
-        Ok(back) => Ok(back),
+        Ok((value, was_open)) => {
+            *seat = Some(value);
+            Ok(was_open)
+        }
         Err(_) => bail!("a slip isn't aborted"),
     }
 }
@@ -71,17 +89,22 @@ fn record_of<B: Room>(
     wanted.again(|| slip.record().copy(alloc))
 }
 
-// Looks at a slip and a viewer before a commit.
+// Looks at an examiner's slip and a viewer before a commit.
 fn look<B: Room>(
-    slip: &Slip<B>,
+    mine: &Examiner<B>,
     kept: &Record,
     viewer: &mut Viewer<B>,
     alloc: Global,
     wanted: &mut Wanted,
 ) -> Result<Before> {
+    let front = viewing::front(viewer, alloc, wanted)?;
+    let is_as_it_was = match &mine.slip {
+        Some(slip) => slip.record().same(kept),
+        None => false,
+    };
     Ok(Before {
-        front: viewing::front(viewer, alloc, wanted)?,
-        is_as_it_was: slip.record().same(kept),
+        front,
+        is_as_it_was,
     })
 }
 
@@ -93,25 +116,113 @@ fn tell_before(rt: &impl Print, before: Before) -> Result<()> {
     Ok(())
 }
 
+impl<B: Room> Examiner<B> {
+    /// Who has a seat, or none.
+    pub fn new(seat: Option<Seat<B>>) -> Examiner<B> {
+        Examiner {
+            seat,
+            slip: None,
+            done: None,
+        }
+    }
+
+    /// Whose seat or slip it has.
+    pub fn number(&self) -> u32 {
+        if let Some(seat) = &self.seat {
+            return seat.examiner();
+        }
+        match &self.slip {
+            Some(slip) => slip.record().examiner,
+            None => 0,
+        }
+    }
+
+    // A copy of its slip's record.
+    fn record(&self, alloc: Global, wanted: &mut Wanted) -> Result<Record> {
+        match &self.slip {
+            Some(slip) => Ok(record_of(slip, alloc, wanted)?),
+            None => bail!("no transaction is open"),
+        }
+    }
+
+    // Tells the place of its commit.
+    fn tell_place(&self, rt: &impl Print) -> Result<()> {
+        match &self.done {
+            Some(done) => tell(
+                rt,
+                done.seat.examiner(),
+                format_args!("committed,{}", done.place),
+            ),
+            None => bail!("nothing is committed"),
+        }
+    }
+
+    /// A viewer learns of its commit.
+    pub fn teach(&self, rt: &impl Print, viewer: &mut Viewer<B>) -> Result<()> {
+        match &self.done {
+            Some(done) => learn(rt, viewer, &done.receipt),
+            None => bail!("nothing is committed"),
+        }
+    }
+
+    /// Adds the outcome of its commit, and has its seat again.
+    pub fn keep(&mut self, outcomes: &mut Vec<Outcome>) -> Result<()> {
+        match self.done.take() {
+            Some(done) => Ok(keep(done, &mut self.seat, outcomes)?),
+            None => bail!("nothing is committed"),
+        }
+    }
+}
+
+// A viewer learns of a commit.
+fn learn<B: Room>(rt: &impl Print, viewer: &mut Viewer<B>, receipt: &Receipt<B>) -> Result<()> {
+    viewer.learn(receipt)?;
+    println!(rt; "viewer: learnt of {}", receipt.place())?;
+    Ok(())
+}
+
+// Adds the outcome of a commit, and puts its seat back.
+fn keep<B: Room>(
+    done: Done<B>,
+    back: &mut Option<Seat<B>>,
+    outcomes: &mut Vec<Outcome>,
+) -> Result<(), AllocError> {
+    let Done {
+        place,
+        rec,
+        seat,
+        ..
+    } = done;
+    *back = Some(seat);
+    add_outcome(outcomes, Outcome { place, rec })
+}
+
 impl<B: Room, R: Wait + Print> Asker<'_, B, R> {
-    /// Begins a transaction.
-    pub fn begin(&self, seat: Seat<B>, wanted: &mut Wanted) -> Result<Slip<B>> {
-        let examiner = seat.examiner();
-        let slip = self.begin_again(seat, wanted)?;
-        tell(self.rt, examiner, "began").and(Ok(slip))
+    // Begins a transaction; a stranger is who has no seat.
+    fn begin_once(&self, mine: &mut Examiner<B>) -> Result<(), Fault> {
+        let Some(seat) = mine.seat.take() else {
+            return Err(Fault::Stranger);
+        };
+        let answer = self.office.begin(self.rt, seat);
+        put(answer, &mut mine.slip, &mut mine.seat)
     }
 
     /// Begins a transaction, and tells nothing.
-    pub fn begin_again(&self, seat: Seat<B>, wanted: &mut Wanted) -> Result<Slip<B>, Fault> {
-        let (seat, why) = match self.office.begin(self.rt, seat) {
-            Ok(slip) => return Ok(slip),
-            Err(back) => back,
-        };
-        let Fault::Memory = why else {
-            return Err(why);
-        };
-        wanted.count();
-        begun(self.office.begin(self.rt, seat))
+    pub fn begin_again(&self, mine: &mut Examiner<B>, wanted: &mut Wanted) -> Result<(), Fault> {
+        match self.begin_once(mine) {
+            Err(Fault::Memory) => {
+                wanted.count();
+                self.begin_once(mine)
+            }
+            answer => answer,
+        }
+    }
+
+    /// Begins a transaction.
+    pub fn begin(&self, mine: &mut Examiner<B>, wanted: &mut Wanted) -> Result<()> {
+        let examiner = mine.number();
+        self.begin_again(mine, wanted)?;
+        tell(self.rt, examiner, "began")
     }
 
     fn ask(&self, slip: &mut Slip<B>, ask: Ask) -> Result<(), Fault> {
@@ -157,101 +268,113 @@ impl<B: Room, R: Wait + Print> Asker<'_, B, R> {
         Ok(())
     }
 
-    // Commits a slip whose record is this, told what shows that it isn't committed yet; its growths may be refused no more.
-    fn commit_again(
-        &self,
-        slip: Slip<B>,
-        kept: &Record,
-        viewer: &mut Viewer<B>,
-        wanted: &mut Wanted,
-    ) -> Result<Done<B>> {
-        tell_before(self.rt, look(&slip, kept, viewer, self.alloc, wanted)?)?;
-        Ok(committed(self.office.commit(self.rt, slip))?)
-    }
-
-    // The same of one that wasn't committed, where that was for want of memory.
-    fn commit_refused(
-        &self,
-        back: (Slip<B>, Fault),
-        kept: &Record,
-        viewer: &mut Viewer<B>,
-        wanted: &mut Wanted,
-    ) -> Result<Done<B>> {
-        let (slip, why) = back;
-        let Fault::Memory = why else { bail!(why) };
-        wanted.count();
-        self.commit_again(slip, kept, viewer, wanted)
+    // Commits a transaction; a stranger is who has no slip.
+    fn commit_once(&self, mine: &mut Examiner<B>) -> Result<(), Fault> {
+        let Some(slip) = mine.slip.take() else {
+            return Err(Fault::Stranger);
+        };
+        let answer = self.office.commit(self.rt, slip);
+        put(answer, &mut mine.done, &mut mine.slip)
     }
 
     // Commits a slip whose record is this, and tells what showed before that it wasn't committed yet.
     fn commit_kept(
         &self,
-        slip: Slip<B>,
+        mine: &mut Examiner<B>,
         kept: &Record,
         viewer: &mut Viewer<B>,
         wanted: &mut Wanted,
-    ) -> Result<Done<B>> {
-        let before = look(&slip, kept, viewer, self.alloc, wanted)?;
-        match self.office.commit(self.rt, slip) {
-            Ok(done) => tell_before(self.rt, before).and(Ok(done)),
-            Err(back) => self.commit_refused(back, kept, viewer, wanted),
+    ) -> Result<()> {
+        let mut before = look(mine, kept, viewer, self.alloc, wanted)?;
+        if let Err(why) = self.commit_once(mine) {
+            let Fault::Memory = why else { bail!(why) };
+            wanted.count();
+            before = look(mine, kept, viewer, self.alloc, wanted)?;
+            self.commit_once(mine)?;
         }
+        tell_before(self.rt, before)
     }
 
     // Commits; before the commit that is taken a viewer shows the records of others alone, and the slip has its steps.
     fn commit(
         &self,
-        slip: Slip<B>,
+        mine: &mut Examiner<B>,
         viewer: &mut Viewer<B>,
         wanted: &mut Wanted,
-    ) -> Result<Done<B>> {
-        let kept = record_of(&slip, self.alloc, wanted)?;
-        self.commit_kept(slip, &kept, viewer, wanted)
+    ) -> Result<()> {
+        let kept = mine.record(self.alloc, wanted)?;
+        self.commit_kept(mine, &kept, viewer, wanted)
     }
 
     /// Begins, takes steps, and tells their answers.
-    pub fn take(&self, seat: Seat<B>, wishes: &[Wish], wanted: &mut Wanted) -> Result<Slip<B>> {
-        let mut slip = self.begin(seat, wanted)?;
-        self.steps_told(&mut slip, wishes, wanted).and(Ok(slip))
+    pub fn take(&self, mine: &mut Examiner<B>, wishes: &[Wish], wanted: &mut Wanted) -> Result<()> {
+        self.begin(mine, wanted)?;
+        match &mut mine.slip {
+            Some(slip) => self.steps_told(slip, wishes, wanted),
+            None => bail!("no transaction is open"),
+        }
+    }
+
+    /// The same of a transaction that is then aborted.
+    pub fn take_back(
+        &self,
+        mine: &mut Examiner<B>,
+        wishes: &[Wish],
+        wanted: &mut Wanted,
+    ) -> Result<()> {
+        self.take(mine, wishes, wanted)?;
+        self.abort(mine)
     }
 
     /// Begins, posts a deed and commits.
     pub fn sell(
         &self,
-        seat: Seat<B>,
+        mine: &mut Examiner<B>,
         sale: Sale,
         viewer: &mut Viewer<B>,
         wanted: &mut Wanted,
-    ) -> Result<Done<B>> {
-        let slip = self.take(seat, &[Wish::Post(sale)], wanted)?;
-        let done = self.commit(slip, viewer, wanted)?;
-        let (examiner, place) = (done.seat.examiner(), done.place);
-        tell(self.rt, examiner, format_args!("committed,{place}")).and(Ok(done))
+    ) -> Result<()> {
+        self.take(mine, &[Wish::Post(sale)], wanted)?;
+        self.commit(mine, viewer, wanted)?;
+        mine.tell_place(self.rt)
     }
 
-    // Commits a slip whose examiner was swept: why it isn't committed, and the slip.
-    fn commit_swept(&self, slip: Slip<B>, wanted: &mut Wanted) -> Result<(Slip<B>, Fault)> {
-        let (slip, why) = refused(self.office.commit(self.rt, slip))?;
-        if !matches!(why, Fault::Memory) {
-            return Ok((slip, why));
+    // Why a slip whose examiner was swept isn't committed.
+    fn commit_swept(&self, mine: &mut Examiner<B>, wanted: &mut Wanted) -> Result<Fault> {
+        let mut answer = self.commit_once(mine);
+        if let Err(Fault::Memory) = answer {
+            wanted.count();
+            answer = self.commit_once(mine);
         }
-        wanted.count();
-        refused(self.office.commit(self.rt, slip))
+        match answer {
+            Ok(()) => bail!("a slip whose examiner was swept was committed"),
+            Err(why) => Ok(why),
+        }
     }
 
     /// Tells why a slip whose examiner was swept isn't committed.
-    pub fn tell_swept(&self, slip: Slip<B>, wanted: &mut Wanted) -> Result<Slip<B>> {
-        let (slip, why) = self.commit_swept(slip, wanted)?;
-        let what = format_args!("not committed: {why}");
-        tell(self.rt, slip.record().examiner, what).and(Ok(slip))
+    pub fn tell_swept(&self, mine: &mut Examiner<B>, wanted: &mut Wanted) -> Result<()> {
+        let why = self.commit_swept(mine, wanted)?;
+        tell(self.rt, mine.number(), format_args!("not committed: {why}"))
+    }
+
+    /// Aborts, which wants no memory, and tells nothing: whether the transaction was open.
+    pub fn abort_untold(&self, mine: &mut Examiner<B>) -> Result<bool> {
+        let Some(slip) = mine.slip.take() else {
+            bail!("no transaction is open");
+        };
+        put_back(self.office.abort(self.rt, slip), &mut mine.seat)
     }
 
     /// Aborts, which wants no memory, and tells whether the transaction was open.
-    pub fn abort(&self, slip: Slip<B>) -> Result<Seat<B>> {
-        let examiner = slip.record().examiner;
-        let (seat, was_open) = aborted(self.office.abort(self.rt, slip))?;
-        let what = format_args!("aborted, was open: {was_open}");
-        tell(self.rt, examiner, what).and(Ok(seat))
+    pub fn abort(&self, mine: &mut Examiner<B>) -> Result<()> {
+        let examiner = mine.number();
+        let was_open = self.abort_untold(mine)?;
+        tell(
+            self.rt,
+            examiner,
+            format_args!("aborted, was open: {was_open}"),
+        )
     }
 
     // Sweeps an examiner.
@@ -306,4 +429,13 @@ pub fn outcomes(alloc: Global, wanted: &mut Wanted) -> Result<Vec<Outcome>, Allo
 pub fn add_outcome(outcomes: &mut Vec<Outcome>, outcome: Outcome) -> Result<(), AllocError> {
     outcomes.push(outcome)?;
     Ok(())
+}
+
+/// The last two of a list, in order.
+pub fn last_two<T: Drop>(items: Vec<T>) -> Option<(T, T)> {
+    let mut items = items;
+    match (items.pop(), items.pop()) {
+        (Some(second), Some(first)) => Some((first, second)),
+        _ => None,
+    }
 }

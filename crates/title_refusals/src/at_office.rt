@@ -1,28 +1,29 @@
 //! Examiners and viewers of an office.
 
-ghost use Rattle.std.specs.Prelude.{◌≡◌};
+ghost use Rattle.std.specs.Prelude.{◌≡◌, ◌≤◌};
 ghost use Rattle.title_trace.specs.Due.{MayOpen};
 
-use crate::asker::{Asker, add_outcome, outcomes, settle};
+use crate::asker::{Asker, Examiner, last_two, outcomes, settle};
+use crate::crew::run_scripts;
 use crate::deeds::{Sale, WHOLE, Wish};
 use crate::parcels::{Parcel, township};
 use crate::telling::tell_records;
-use crate::viewing::{front, tell_record_at, tell_sheet};
+use crate::viewing::{tell_other, tell_sheet, tell_views};
 use crate::wanted::Wanted;
 use anyhow::{Result, bail};
-use std::alloc::{AllocError, Global};
+use std::alloc::Global;
+use std::io;
 use std::marker::Brand;
 use std::sync::Wait;
+use std::thread::Threads;
+use title_chain::Record;
 use title_desk::may_open;
 use title_land::Township;
 use title_ledger::{Ledger, Room};
-use title_office::{Done, Office, Opened, Outcome, Receipt, Seat, Slip, Viewer};
+use title_office::{Office, Opened, Outcome, Seat, Viewer};
 
-/// The office's number.
-pub const OFFICE: u64 = 7;
-
-// UNITED STATES and ADAMS.
-const PARTIES: u32 = 2;
+// The office's number.
+const OFFICE: u64 = 7;
 
 // All of the surface of a section.
 const FIRST_SALE: Sale = Sale {
@@ -39,7 +40,7 @@ const SECOND_SALE: Sale = Sale {
     parcel: Parcel::NextSection,
 };
 
-/// What is done in an office of two examiners.
+/// What is done in a day by two examiners, of whom viewers see something.
 #[derive(Clone, Copy)]
 pub enum Day {
     /// One commits, and what it wrote is read back.
@@ -50,244 +51,113 @@ pub enum Day {
     Views,
 }
 
-// A seat's examiner takes steps in a transaction that is then aborted: the seat.
-fn take_back<B: Room, R: Wait + Print>(
-    asker: &Asker<'_, B, R>,
-    seat: Seat<B>,
-    wishes: &[Wish],
-    wanted: &mut Wanted,
-) -> Result<Seat<B>> {
-    asker.abort(asker.take(seat, wishes, wanted)?)
+/// What is done in an office of two examiners.
+#[derive(Clone, Copy)]
+pub enum Work {
+    Day(Day),
+    /// Two scripts are run by threads; there are no viewers.
+    Scripts,
 }
 
-// A seat's examiner reads all land and a chain in a transaction that is then aborted.
+impl Work {
+    // UNITED STATES and ADAMS; scripts sell to BELL too.
+    fn parties(self) -> u32 {
+        match self {
+            Work::Day(_) => 2,
+            Work::Scripts => 3,
+        }
+    }
+
+    fn viewers(self) -> u32
+        ensures few { result ≤ 64 }
+    {
+        match self {
+            Work::Day(_) => 2,
+            Work::Scripts => 0,
+        }
+    }
+}
+
+// An examiner reads all land and a chain in a transaction that is then aborted.
 fn look_round<B: Room, R: Wait + Print>(
     asker: &Asker<'_, B, R>,
-    seat: Seat<B>,
+    mine: &mut Examiner<B>,
     wanted: &mut Wanted,
 ) -> Result<()> {
     let wishes = [
         Wish::Sheet(Parcel::Everything),
         Wish::Chain(Parcel::Section),
     ];
-    take_back(asker, seat, &wishes, wanted)?;
-    Ok(())
+    asker.take_back(mine, &wishes, wanted)
 }
 
-// A viewer learns of a commit.
-fn learn<B: Room>(rt: &impl Print, viewer: &mut Viewer<B>, receipt: &Receipt<B>) -> Result<()> {
-    viewer.learn(receipt)?;
-    println!(rt; "viewer: learnt of {}", receipt.place())?;
-    Ok(())
-}
-
-// One that has learnt of nothing may show a front before the commit.
-fn tell_other<B: Room, R: Wait + Print>(
-    asker: &Asker<'_, B, R>,
-    other: &mut Viewer<B>,
-    wanted: &mut Wanted,
-) -> Result<()> {
-    let shown = front(other, asker.alloc, wanted)?;
-    println!(asker.rt; "the other viewer: front 0 or 1: {}", shown <= 1)?;
-    Ok(())
-}
-
-// Adds the outcome of a commit: the seat.
-fn keep<B: Room>(done: Done<B>, outcomes: &mut Vec<Outcome>) -> Result<Seat<B>, AllocError> {
-    let Done {
-        place,
-        rec,
-        seat,
-        ..
-    } = done;
-    add_outcome(outcomes, Outcome { place, rec }).and(Ok(seat))
-}
-
-// A viewer learns of a commit, and shows its section; the other one has learnt of nothing.
-fn view_back<B: Room, R: Wait + Print>(
-    asker: &Asker<'_, B, R>,
-    receipt: &Receipt<B>,
-    viewer: &mut Viewer<B>,
-    other: &mut Viewer<B>,
-    wanted: &mut Wanted,
-) -> Result<()> {
-    learn(asker.rt, viewer, receipt)?;
-    tell_sheet(asker.rt, viewer, asker.alloc, Parcel::Section, wanted)?;
-    tell_other(asker, other, wanted)
-}
-
-// The same of a commit of the first deed.
-fn sell_and_view_back<B: Room, R: Wait + Print>(
-    asker: &Asker<'_, B, R>,
-    seat: Seat<B>,
-    viewer: &mut Viewer<B>,
-    other: &mut Viewer<B>,
-    wanted: &mut Wanted,
-) -> Result<Done<B>> {
-    let done = asker.sell(seat, FIRST_SALE, other, wanted)?;
-    view_back(asker, &done.receipt, viewer, other, wanted).and(Ok(done))
-}
-
-// A commit is read back: its outcome is added.
+// A commit is read back: a viewer learns of it, and shows its section; the other one has learnt of nothing.
 fn read_back<B: Room, R: Wait + Print>(
     asker: &Asker<'_, B, R>,
-    seat: Seat<B>,
+    mine: &mut Examiner<B>,
     viewer: &mut Viewer<B>,
     other: &mut Viewer<B>,
     outcomes: &mut Vec<Outcome>,
     wanted: &mut Wanted,
 ) -> Result<()> {
-    let done = sell_and_view_back(asker, seat, viewer, other, wanted)?;
-    look_round(asker, keep(done, outcomes)?, wanted)
+    asker.sell(mine, FIRST_SALE, other, wanted)?;
+    mine.teach(asker.rt, viewer)?;
+    tell_sheet(asker.rt, viewer, asker.alloc, Parcel::Section, wanted)?;
+    tell_other(asker.rt, other, asker.alloc, wanted)?;
+    mine.keep(outcomes)?;
+    look_round(asker, mine, wanted)
 }
 
-// An examiner posts a deed and is swept.
-fn post_and_sweep<B: Room, R: Wait + Print>(
-    asker: &Asker<'_, B, R>,
-    seat: Seat<B>,
-    wanted: &mut Wanted,
-) -> Result<Slip<B>> {
-    let examiner = seat.examiner();
-    let slip = asker.take(seat, &[Wish::Post(FIRST_SALE)], wanted)?;
-    asker.sweep_twice(examiner, wanted).and(Ok(slip))
-}
-
-// The same, and then isn't committed, but aborted: the seat.
+// An examiner posts a deed and is swept, and then isn't committed, but aborted.
 fn sweep_sale<B: Room, R: Wait + Print>(
     asker: &Asker<'_, B, R>,
-    seat: Seat<B>,
+    mine: &mut Examiner<B>,
     wanted: &mut Wanted,
-) -> Result<Seat<B>> {
-    let slip = post_and_sweep(asker, seat, wanted)?;
-    asker.abort(asker.tell_swept(slip, wanted)?)
-}
-
-// A deed is aborted, of which nothing is to be seen then: the seat.
-fn abort_sale<B: Room, R: Wait + Print>(
-    asker: &Asker<'_, B, R>,
-    seat: Seat<B>,
-    viewer: &mut Viewer<B>,
-    wanted: &mut Wanted,
-) -> Result<Seat<B>> {
-    let seat = take_back(asker, seat, &[Wish::Post(FIRST_SALE)], wanted)?;
-    tell_sheet(asker.rt, viewer, asker.alloc, Parcel::Section, wanted)?;
-    Ok(seat)
+) -> Result<()> {
+    let examiner = mine.number();
+    asker.take(mine, &[Wish::Post(FIRST_SALE)], wanted)?;
+    asker.sweep_twice(examiner, wanted)?;
+    asker.tell_swept(mine, wanted)?;
+    asker.abort(mine)
 }
 
 // A deed is aborted, and another is swept; nothing is to be seen of them.
 fn abort_all<B: Room, R: Wait + Print>(
     asker: &Asker<'_, B, R>,
-    seat: Seat<B>,
+    mine: &mut Examiner<B>,
     viewer: &mut Viewer<B>,
     other: &mut Viewer<B>,
     wanted: &mut Wanted,
 ) -> Result<()> {
-    let seat = abort_sale(asker, seat, viewer, wanted)?;
-    let seat = sweep_sale(asker, seat, wanted)?;
-    tell_other(asker, other, wanted)?;
-    look_round(asker, seat, wanted)
-}
-
-// Tells all that a viewer shows: sheets, one of them of land outside the plant, and records.
-fn tell_views<B: Room, R: Wait + Print>(
-    asker: &Asker<'_, B, R>,
-    viewer: &mut Viewer<B>,
-    wanted: &mut Wanted,
-) -> Result<()> {
-    let (rt, alloc) = (asker.rt, asker.alloc);
-    for parcel in [Parcel::Section, Parcel::Undeclared, Parcel::TwoNodes] {
-        tell_sheet(rt, viewer, alloc, parcel, wanted)?;
-    }
-    for place in 0..3 {
-        tell_record_at(rt, viewer, place, wanted)?;
-    }
-    tell_sheet(rt, viewer, alloc, Parcel::Everything, wanted)
-}
-
-// A viewer learns of a commit, and is asked for all that it shows.
-fn learn_and_view<B: Room, R: Wait + Print>(
-    asker: &Asker<'_, B, R>,
-    receipt: &Receipt<B>,
-    viewer: &mut Viewer<B>,
-    wanted: &mut Wanted,
-) -> Result<()> {
-    learn(asker.rt, viewer, receipt)?;
-    tell_views(asker, viewer, wanted)
+    asker.take_back(mine, &[Wish::Post(FIRST_SALE)], wanted)?;
+    tell_sheet(asker.rt, viewer, asker.alloc, Parcel::Section, wanted)?;
+    sweep_sale(asker, mine, wanted)?;
+    tell_other(asker.rt, other, asker.alloc, wanted)?;
+    look_round(asker, mine, wanted)
 }
 
 // An examiner commits a deed, and a viewer that has learnt of it is asked for all that it shows.
-fn sell_and_view<B: Room, R: Wait + Print>(
-    asker: &Asker<'_, B, R>,
-    sold: (Seat<B>, Sale),
-    viewer: &mut Viewer<B>,
-    other: &mut Viewer<B>,
-    wanted: &mut Wanted,
-) -> Result<Done<B>> {
-    let (seat, sale) = sold;
-    let done = asker.sell(seat, sale, other, wanted)?;
-    learn_and_view(asker, &done.receipt, viewer, wanted).and(Ok(done))
-}
-
-// The same: its outcome is added.
 fn view_sale<B: Room, R: Wait + Print>(
     asker: &Asker<'_, B, R>,
-    sold: (Seat<B>, Sale),
+    mine: &mut Examiner<B>,
+    sale: Sale,
     viewer: &mut Viewer<B>,
     other: &mut Viewer<B>,
     outcomes: &mut Vec<Outcome>,
     wanted: &mut Wanted,
 ) -> Result<()> {
-    let done = sell_and_view(asker, sold, viewer, other, wanted)?;
-    keep(done, outcomes)?;
-    Ok(())
-}
-
-// Each of two examiners commits, one after the other.
-fn view_all<B: Room, R: Wait + Print>(
-    asker: &Asker<'_, B, R>,
-    seats: (Seat<B>, Seat<B>),
-    viewer: &mut Viewer<B>,
-    other: &mut Viewer<B>,
-    outcomes: &mut Vec<Outcome>,
-    wanted: &mut Wanted,
-) -> Result<()> {
-    let (first, second) = seats;
-    let (first, second) = ((first, FIRST_SALE), (second, SECOND_SALE));
-    view_sale(asker, first, viewer, other, outcomes, wanted)?;
-    view_sale(asker, second, viewer, other, outcomes, wanted)
-}
-
-// The two seats of an office.
-fn two_seats<B: Room>(seats: Vec<Seat<B>>) -> Option<(Seat<B>, Seat<B>)> {
-    let mut seats = seats;
-    match (seats.pop(), seats.pop()) {
-        (Some(second), Some(first)) => Some((first, second)),
-        _ => None,
-    }
+    asker.sell(mine, sale, other, wanted)?;
+    mine.teach(asker.rt, viewer)?;
+    tell_views(asker.rt, viewer, asker.alloc, wanted)?;
+    mine.keep(outcomes)
 }
 
 // What is done in a day: the outcomes are added.
 fn run_day<B: Room, R: Wait + Print>(
     asker: &Asker<'_, B, R>,
     day: Day,
-    seats: (Seat<B>, Seat<B>),
-    viewer: &mut Viewer<B>,
-    other: &mut Viewer<B>,
-    outcomes: &mut Vec<Outcome>,
-    wanted: &mut Wanted,
-) -> Result<()> {
-    match day {
-        Day::ReadsBack => read_back(asker, seats.0, viewer, other, outcomes, wanted),
-        Day::Aborts => abort_all(asker, seats.0, viewer, other, wanted),
-        Day::Views => view_all(asker, seats, viewer, other, outcomes, wanted),
-    }
-}
-
-// The same, with the viewers of an office.
-fn run_watched<B: Room, R: Wait + Print>(
-    asker: &Asker<'_, B, R>,
-    day: Day,
-    seats: Vec<Seat<B>>,
+    first: &mut Examiner<B>,
+    second: &mut Examiner<B>,
     viewers: &mut [Viewer<B>],
     outcomes: &mut Vec<Outcome>,
     wanted: &mut Wanted,
@@ -298,9 +168,56 @@ fn run_watched<B: Room, R: Wait + Print>(
     let Some((other, _)) = rest.split_first_mut() else {
         bail!("there are not two viewers");
     };
-    match two_seats(seats) {
-        Some(seats) => run_day(asker, day, seats, viewer, other, outcomes, wanted),
-        None => bail!("there are not two seats"),
+    match day {
+        Day::ReadsBack => read_back(asker, first, viewer, other, outcomes, wanted),
+        Day::Aborts => abort_all(asker, first, viewer, other, wanted),
+        Day::Views => {
+            view_sale(asker, first, FIRST_SALE, viewer, other, outcomes, wanted)?;
+            view_sale(asker, second, SECOND_SALE, viewer, other, outcomes, wanted)
+        }
+    }
+}
+
+// The same, from the seats of an office.
+fn run_from<B: Room, R: Wait + Print>(
+    asker: &Asker<'_, B, R>,
+    day: Day,
+    seats: Vec<Seat<B>>,
+    viewers: &mut [Viewer<B>],
+    outcomes: &mut Vec<Outcome>,
+    wanted: &mut Wanted,
+) -> Result<()> {
+    let Some((first, second)) = last_two(seats) else {
+        bail!("there are not two seats");
+    };
+    let first = &mut Examiner::new(Some(first));
+    let second = &mut Examiner::new(Some(second));
+    run_day(asker, day, first, second, viewers, outcomes, wanted)
+}
+
+// Does the work: the outcomes are added.
+fn run<B: Room + Send + Sync, R: Threads + Wait + Sync + Print>(
+    asker: &Asker<'_, B, R>,
+    work: Work,
+    seats: Vec<Seat<B>>,
+    viewers: &mut [Viewer<B>],
+    outcomes: &mut Vec<Outcome>,
+    wanted: &mut Wanted,
+) -> Result<()> {
+    match work {
+        Work::Day(day) => run_from(asker, day, seats, viewers, outcomes, wanted),
+        Work::Scripts => run_scripts(asker, seats, outcomes, wanted),
+    }
+}
+
+// Tells the records of an office, of scripts only whether they are as many as the outcomes.
+fn tell_end(rt: &impl Print, work: Work, records: &[Record], outcomes: usize) -> io::Result<()> {
+    match work {
+        Work::Day(_) => tell_records(rt, records),
+        Work::Scripts => {
+            let are_all = records.len() == outcomes;
+            println!(rt; "settled with each outcome: {are_all}")
+        }
     }
 }
 
@@ -309,18 +226,20 @@ fn tell_settled<B: Room, R: Wait + Print>(
     rt: &R,
     office: Office<B>,
     outcomes: Vec<Outcome>,
+    work: Work,
     wanted: &mut Wanted,
 ) -> Result<()> {
+    let committed = outcomes.len();
     let records = settle(rt, office, outcomes, wanted)?;
-    Ok(tell_records(rt, records.as_slice())?)
+    Ok(tell_end(rt, work, records.as_slice(), committed)?)
 }
 
-// Runs a day in an office, and settles it.
-fn run_opened<B: Room, R: Wait + Print>(
+// Does the work in an office, and settles it.
+fn run_opened<B: Room + Send + Sync, R: Threads + Wait + Sync + Print>(
     rt: &R,
     alloc: Global,
     opened: Opened<B>,
-    day: Day,
+    work: Work,
     outcomes: Vec<Outcome>,
     wanted: &mut Wanted,
 ) -> Result<()> {
@@ -335,8 +254,8 @@ fn run_opened<B: Room, R: Wait + Print>(
         alloc,
         office: &office,
     };
-    match run_watched(&asker, day, seats, &mut viewers, &mut outcomes, wanted) {
-        Ok(()) => tell_settled(rt, office, outcomes, wanted),
+    match run(&asker, work, seats, &mut viewers, &mut outcomes, wanted) {
+        Ok(()) => tell_settled(rt, office, outcomes, work, wanted),
         Err(why) => {
             office.close(rt);
             Err(why)
@@ -345,13 +264,13 @@ fn run_opened<B: Room, R: Wait + Print>(
 }
 
 // The same in an office that is opened; false where it wasn't for want of memory.
-fn run_in_office<B: Room, R: Wait + Print>(
+fn run_in_office<B: Room + Send + Sync, R: Threads + Wait + Sync + Print>(
     rt: &R,
     alloc: Global,
     ledger: Ledger,
     parties: u32,
     townships: &[Township],
-    day: Day,
+    work: Work,
     wanted: &mut Wanted,
 ) -> Result<bool>
     requires book { ledger ≡ B.book }
@@ -359,9 +278,10 @@ fn run_in_office<B: Room, R: Wait + Print>(
     requires may_open { MayOpen parties townships.now }
 {
     let outcomes = outcomes(alloc, wanted)?;
-    match Office::<B>::open(rt, alloc, ledger, OFFICE, parties, townships, 2, 2) {
+    let viewers = work.viewers();
+    match Office::<B>::open(rt, alloc, ledger, OFFICE, parties, townships, 2, viewers) {
         Ok(opened) => {
-            run_opened(rt, alloc, opened, day, outcomes, wanted)?;
+            run_opened(rt, alloc, opened, work, outcomes, wanted)?;
             Ok(true)
         }
         Err(_) => Ok(false),
@@ -369,47 +289,53 @@ fn run_in_office<B: Room, R: Wait + Print>(
 }
 
 // The same in an office of its own parameter.
-fn run_once<R: Wait + Print>(
+fn run_once<R: Threads + Wait + Sync + Print>(
     rt: &R,
     alloc: Global,
     parties: u32,
     townships: &[Township],
-    day: Day,
+    work: Work,
     wanted: &mut Wanted,
 ) -> Result<bool>
     requires may_open { MayOpen parties townships.now }
 {
-    run_in_office::<Brand, _>(rt, alloc, Ledger::new(), parties, townships, day, wanted)
+    run_in_office::<Brand, _>(rt, alloc, Ledger::new(), parties, townships, work, wanted)
 }
 
-// Runs a day in an office for these townships, which is opened once more where a growth was refused.
-fn run_again<R: Wait + Print>(
+// Works in an office for these townships, which is opened once more where a growth was refused.
+fn run_again<R: Threads + Wait + Sync + Print>(
     rt: &R,
     alloc: Global,
+    parties: u32,
     townships: &[Township],
-    day: Day,
+    work: Work,
     wanted: &mut Wanted,
 ) -> Result<()>
-    requires may_open { MayOpen PARTIES townships.now }
+    requires may_open { MayOpen parties townships.now }
 {
-    if run_once(rt, alloc, PARTIES, townships, day, wanted)? {
+    if run_once(rt, alloc, parties, townships, work, wanted)? {
         return Ok(());
     }
     wanted.count();
-    if run_once(rt, alloc, PARTIES, townships, day, wanted)? {
+    if run_once(rt, alloc, parties, townships, work, wanted)? {
         return Ok(());
     }
     bail!("memory was refused twice");
 }
 
-/// Runs a day in an office of the plant.
-pub fn tell<R: Wait + Print>(rt: &R, alloc: Global, day: Day, wanted: &mut Wanted) -> Result<()> {
+/// Works in an office of the plant.
+pub fn tell<R: Threads + Wait + Sync + Print>(
+    rt: &R,
+    alloc: Global,
+    work: Work,
+    wanted: &mut Wanted,
+) -> Result<()> {
     let Some(township) = township() else {
         bail!("there is no such township");
     };
-    let townships = [township];
-    if !may_open(PARTIES, &townships) {
+    let (parties, townships) = (work.parties(), [township]);
+    if !may_open(parties, &townships) {
         bail!("an office can't be opened for these");
     }
-    run_again(rt, alloc, &townships, day, wanted)
+    run_again(rt, alloc, parties, &townships, work, wanted)
 }

@@ -1,31 +1,24 @@
 //! Two scripts that an office runs by threads.
 
 ghost use Rattle.std.specs.Prelude.{◌≡◌, IfOk};
-ghost use Rattle.title_trace.specs.Due.{MayOpen};
 ghost use Rattle.title_office.specs.Workers.{examiners_of, seat_examiners};
 
-use crate::asker::{Asker, add_outcome, outcomes, settle};
-use crate::at_office::OFFICE;
+use crate::asker::{Asker, Examiner, add_outcome, last_two};
 use crate::deeds::{Sale, WHOLE, Wish};
-use crate::parcels::{Parcel, township};
+use crate::parcels::Parcel;
 use crate::wanted::Wanted;
 use anyhow::{Result, bail};
 use std::alloc::{AllocError, Global};
-use std::marker::Brand;
 use std::sync::Wait;
 use std::thread::Threads;
-use title_chain::{Answer, Ask, SheetRows};
-use title_desk::may_open;
+use title_chain::{Answer, SheetRows};
 use title_instrument::Estate;
-use title_land::{Node, Township};
-use title_ledger::{Ledger, Room};
+use title_land::Node;
+use title_ledger::Room;
 use title_office::{
-    Fault, Office, OpenGate, Opened, Outcome, Script, Seat, Slip, Transaction, Worked, work,
+    Fault, Office, OpenGate, Outcome, Script, Seat, Slip, Transaction, Worked, work,
 };
 use title_store::SheetRow;
-
-// UNITED STATES, ADAMS and BELL.
-const PARTIES: u32 = 3;
 
 const TRIES: u32 = 100;
 
@@ -51,30 +44,23 @@ fn sale_of(examiner: u32) -> Sale {
     }
 }
 
-fn asks(alloc: Global, ask: Ask) -> Result<Vec<Ask>, AllocError> {
-    let mut asks = Vec::new(alloc);
-    asks.push(ask)?;
-    Ok(asks)
-}
-
-fn transactions(alloc: Global, asks: Vec<Ask>) -> Result<Vec<Transaction>, AllocError> {
-    let mut transactions = Vec::new(alloc);
-    transactions.push(Transaction {
-        asks,
-        commits: true,
-    })?;
-    Ok(transactions)
+fn one<T: Drop>(alloc: Global, item: T) -> Result<Vec<T>, AllocError> {
+    let mut items = Vec::new(alloc);
+    items.push(item)?;
+    Ok(items)
 }
 
 fn script(alloc: Global, examiner: u32, wanted: &mut Wanted) -> Result<Script>
     ensures examiner { IfOk result (λ s. s.examiner ≡ examiner) }
 {
     let ask = Wish::Post(sale_of(examiner)).ask(alloc, wanted)?;
-    let asks = asks(alloc, ask)?;
-    let transactions = transactions(alloc, asks)?;
+    let transaction = Transaction {
+        asks: one(alloc, ask)?,
+        commits: true,
+    };
     Ok(Script {
         examiner,
-        transactions,
+        transactions: one(alloc, transaction)?,
     })
 }
 
@@ -109,7 +95,34 @@ fn scripts_again<B: Room>(
     scripts_for(alloc, seats, wanted)
 }
 
-// Runs the scripts by threads; once more where memory was refused before any thread was started.
+// What came of scripts, where they were run.
+fn worked<T: Drop, S: Drop, A: Drop>(answer: Result<T, (S, A, Fault)>) -> Result<T> {
+    match answer {
+        Ok(worked) => Ok(worked),
+        Err((_, _, why)) => bail!(why),
+    }
+}
+
+// Runs scripts by threads; once more where memory was refused before any thread was started.
+fn work_twice<B: Room + Send + Sync, R: Threads + Wait + Sync>(
+    rt: &R,
+    alloc: Global,
+    office: &Office<B>,
+    seats: Vec<Seat<B>>,
+    scripts: Vec<Script>,
+    wanted: &mut Wanted,
+) -> Result<Vec<Worked<B>>>
+    requires fits { seat_examiners seats.items ≡ examiners_of scripts.items }
+{
+    let (seats, scripts, _) = match work(rt, alloc, office, seats, scripts, TRIES, &OpenGate) {
+        Ok(worked) => return Ok(worked),
+        Err(back) => back,
+    };
+    wanted.count();
+    worked(work(rt, alloc, office, seats, scripts, TRIES, &OpenGate))
+}
+
+// The same of a script for each seat.
 fn work_again<B: Room + Send + Sync, R: Threads + Wait + Sync>(
     rt: &R,
     alloc: Global,
@@ -118,15 +131,7 @@ fn work_again<B: Room + Send + Sync, R: Threads + Wait + Sync>(
     wanted: &mut Wanted,
 ) -> Result<Vec<Worked<B>>> {
     let scripts = scripts_again(alloc, seats.as_slice(), wanted)?;
-    let (seats, scripts, _) = match work(rt, alloc, office, seats, scripts, TRIES, &OpenGate) {
-        Ok(worked) => return Ok(worked),
-        Err(back) => back,
-    };
-    wanted.count();
-    match work(rt, alloc, office, seats, scripts, TRIES, &OpenGate) {
-        Ok(worked) => Ok(worked),
-        Err((_, _, why)) => bail!(why),
-    }
+    work_twice(rt, alloc, office, seats, scripts, wanted)
 }
 
 // Whether a worker has committed its transaction at the first try.
@@ -250,50 +255,51 @@ impl Sold {
     }
 }
 
-// Whether the last answer of a slip is the sheet after these sales.
-fn is_sheet_due<B: Room>(slip: &Slip<B>, sold: Sold) -> bool {
-    match slip.last() {
+// Whether a slip is shown the sheet of all land after these sales.
+fn is_sheet_due<B: Room, R: Wait + Print>(
+    asker: &Asker<'_, B, R>,
+    slip: &mut Slip<B>,
+    sold: Sold,
+    wanted: &mut Wanted,
+) -> Result<bool> {
+    asker.step(slip, Wish::Sheet(Parcel::Everything), wanted)?;
+    Ok(match slip.last() {
         Some(Answer::Rows(rows)) => sold.are_rows_due(rows),
         _ => false,
-    }
+    })
 }
 
-// Whether the sheet of all land is that after these sales; the slip is given back.
-fn is_slip_due<B: Room, R: Wait + Print>(
-    asker: &Asker<'_, B, R>,
-    slip: Slip<B>,
-    sold: Sold,
-) -> bool {
-    let is_due = is_sheet_due(&slip, sold);
-    asker.office.abort(asker.rt, slip).is_ok() && is_due
-}
-
-// Whether a seat's examiner is shown the plant after these sales.
+// Whether an examiner is shown the plant after these sales, in a transaction that is then aborted.
 fn is_shown<B: Room, R: Wait + Print>(
     asker: &Asker<'_, B, R>,
-    seat: Seat<B>,
+    mine: &mut Examiner<B>,
     sold: Sold,
     wanted: &mut Wanted,
 ) -> Result<bool> {
-    let mut slip = asker.begin_again(seat, wanted)?;
-    asker.step(&mut slip, Wish::Sheet(Parcel::Everything), wanted)?;
-    Ok(is_slip_due(asker, slip, sold))
+    asker.begin_again(mine, wanted)?;
+    let is_due = match &mut mine.slip {
+        Some(slip) => is_sheet_due(asker, slip, sold, wanted)?,
+        None => false,
+    };
+    asker.abort_untold(mine)?;
+    Ok(is_due)
 }
 
-// The same where there is a seat.
-fn is_plant_due<B: Room, R: Wait + Print>(
+// Tells what came of two workers, by what an examiner is shown if it has a seat.
+fn tell_due<B: Room, R: Wait + Print>(
     asker: &Asker<'_, B, R>,
-    seat: Option<Seat<B>>,
+    are_due: bool,
+    mine: &mut Examiner<B>,
     sold: Sold,
     wanted: &mut Wanted,
-) -> Result<bool> {
-    match seat {
-        Some(seat) => is_shown(asker, seat, sold, wanted),
-        None => Ok(false),
-    }
+) -> Result<()> {
+    let is_plant_due = mine.seat.is_some() && is_shown(asker, mine, sold, wanted)?;
+    println!(asker.rt; "each worker is done, or one alone was refused: {are_due}")?;
+    println!(asker.rt; "the plant is that after what was committed: {is_plant_due}")?;
+    Ok(())
 }
 
-// Tells what came of two workers, and adds their outcomes.
+// The same: their outcomes are added.
 fn tell_workers<B: Room, R: Wait + Print>(
     asker: &Asker<'_, B, R>,
     first: Worked<B>,
@@ -302,137 +308,20 @@ fn tell_workers<B: Room, R: Wait + Print>(
     wanted: &mut Wanted,
 ) -> Result<()> {
     let are_due = are_due(&first, &second, wanted);
-    let seat = take_both(first, second, outcomes)?;
-    let sold = Sold::of(outcomes.as_slice());
-    let is_plant_due = is_plant_due(asker, seat, sold, wanted)?;
-    println!(asker.rt; "each worker is done, or one alone was refused: {are_due}")?;
-    println!(asker.rt; "the plant is that after what was committed: {is_plant_due}")?;
-    Ok(())
+    let mine = &mut Examiner::new(take_both(first, second, outcomes)?);
+    tell_due(asker, are_due, mine, Sold::of(outcomes.as_slice()), wanted)
 }
 
-// Runs the scripts, and looks at what came of them: the outcomes are added.
-fn run_scripts<B: Room + Send + Sync, R: Threads + Wait + Sync + Print>(
+/// Runs two scripts by threads, and looks at what came of them: the outcomes are added.
+pub fn run_scripts<B: Room + Send + Sync, R: Threads + Wait + Sync + Print>(
     asker: &Asker<'_, B, R>,
     seats: Vec<Seat<B>>,
     outcomes: &mut Vec<Outcome>,
     wanted: &mut Wanted,
 ) -> Result<()> {
-    let mut worked = work_again(asker.rt, asker.alloc, asker.office, seats, wanted)?;
-    match (worked.pop(), worked.pop()) {
-        (Some(second), Some(first)) => tell_workers(asker, first, second, outcomes, wanted),
-        _ => bail!("there are not two workers"),
+    let worked = work_again(asker.rt, asker.alloc, asker.office, seats, wanted)?;
+    match last_two(worked) {
+        Some((first, second)) => tell_workers(asker, first, second, outcomes, wanted),
+        None => bail!("there are not two workers"),
     }
-}
-
-// Settles an office, and tells whether its records are as many as the outcomes.
-fn tell_settled<B: Room, R: Wait + Print>(
-    rt: &R,
-    office: Office<B>,
-    outcomes: Vec<Outcome>,
-    wanted: &mut Wanted,
-) -> Result<()> {
-    let committed = outcomes.len();
-    let records = settle(rt, office, outcomes, wanted)?;
-    let are_all = records.as_slice().len() == committed;
-    println!(rt; "settled with each outcome: {are_all}")?;
-    Ok(())
-}
-
-// Runs the scripts in an office, which is then settled.
-fn run_opened<B: Room + Send + Sync, R: Threads + Wait + Sync + Print>(
-    rt: &R,
-    alloc: Global,
-    opened: Opened<B>,
-    outcomes: Vec<Outcome>,
-    wanted: &mut Wanted,
-) -> Result<()> {
-    let Opened {
-        office,
-        seats,
-        viewers: _,
-    } = opened;
-    let mut outcomes = outcomes;
-    let asker = Asker {
-        rt,
-        alloc,
-        office: &office,
-    };
-    match run_scripts(&asker, seats, &mut outcomes, wanted) {
-        Ok(()) => tell_settled(rt, office, outcomes, wanted),
-        Err(why) => {
-            office.close(rt);
-            Err(why)
-        }
-    }
-}
-
-// The same in an office that is opened; false where it wasn't for want of memory.
-fn run_in_office<B: Room + Send + Sync, R: Threads + Wait + Sync + Print>(
-    rt: &R,
-    alloc: Global,
-    ledger: Ledger,
-    parties: u32,
-    townships: &[Township],
-    wanted: &mut Wanted,
-) -> Result<bool>
-    requires book { ledger ≡ B.book }
-    requires setting { B.setting ≡ record { parties = parties; townships = townships.now } }
-    requires may_open { MayOpen parties townships.now }
-{
-    let outcomes = outcomes(alloc, wanted)?;
-    match Office::<B>::open(rt, alloc, ledger, OFFICE, parties, townships, 2, 0) {
-        Ok(opened) => {
-            run_opened(rt, alloc, opened, outcomes, wanted)?;
-            Ok(true)
-        }
-        Err(_) => Ok(false),
-    }
-}
-
-// The same in an office of its own parameter.
-fn run_once<R: Threads + Wait + Sync + Print>(
-    rt: &R,
-    alloc: Global,
-    parties: u32,
-    townships: &[Township],
-    wanted: &mut Wanted,
-) -> Result<bool>
-    requires may_open { MayOpen parties townships.now }
-{
-    run_in_office::<Brand, _>(rt, alloc, Ledger::new(), parties, townships, wanted)
-}
-
-// Runs two scripts by threads in an office for these townships, which is opened once more where a growth was refused.
-fn run_again<R: Threads + Wait + Sync + Print>(
-    rt: &R,
-    alloc: Global,
-    townships: &[Township],
-    wanted: &mut Wanted,
-) -> Result<()>
-    requires may_open { MayOpen PARTIES townships.now }
-{
-    if run_once(rt, alloc, PARTIES, townships, wanted)? {
-        return Ok(());
-    }
-    wanted.count();
-    if run_once(rt, alloc, PARTIES, townships, wanted)? {
-        return Ok(());
-    }
-    bail!("memory was refused twice");
-}
-
-/// Runs two scripts by threads in an office of the plant.
-pub fn tell<R: Threads + Wait + Sync + Print>(
-    rt: &R,
-    alloc: Global,
-    wanted: &mut Wanted,
-) -> Result<()> {
-    let Some(township) = township() else {
-        bail!("there is no such township");
-    };
-    let townships = [township];
-    if !may_open(PARTIES, &townships) {
-        bail!("an office can't be opened for these");
-    }
-    run_again(rt, alloc, &townships, wanted)
 }

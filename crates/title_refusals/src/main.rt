@@ -24,7 +24,7 @@ mod wanted;
 
 use anyhow::{Result, bail};
 use at_desk::Ending;
-use at_office::Day;
+use at_office::{Day, Work};
 use std::env;
 use std::sync::Wait;
 use std::thread::Threads;
@@ -106,8 +106,8 @@ fn tell<R: Threads + Wait + Sync + Print + AllocGlobal>(
     match list {
         List::Desk(ending) => at_desk::tell(rt, rt.alloc(), ending, wanted),
         List::DeskAlone => alone::tell(rt, rt.alloc(), wanted),
-        List::Office(day) => at_office::tell(rt, rt.alloc(), day, wanted),
-        List::Work => crew::tell(rt, rt.alloc(), wanted),
+        List::Office(day) => at_office::tell(rt, rt.alloc(), Work::Day(day), wanted),
+        List::Work => at_office::tell(rt, rt.alloc(), Work::Scripts, wanted),
         List::Run => script::tell(rt, rt.alloc(), wanted),
     }
 }

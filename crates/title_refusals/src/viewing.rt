@@ -85,3 +85,31 @@ pub fn tell_record_at<B: Room>(
 ) -> Result<()> {
     Ok(tell_found(rt, place, record(viewer, place, wanted)?)?)
 }
+
+/// One that has learnt of nothing may show a front before the commit.
+pub fn tell_other<B: Room>(
+    rt: &impl Print,
+    other: &mut Viewer<B>,
+    alloc: Global,
+    wanted: &mut Wanted,
+) -> Result<()> {
+    let shown = front(other, alloc, wanted)?;
+    println!(rt; "the other viewer: front 0 or 1: {}", shown <= 1)?;
+    Ok(())
+}
+
+/// Tells all that a viewer shows: sheets, one of them of land outside the plant, and records.
+pub fn tell_views<B: Room>(
+    rt: &impl Print,
+    viewer: &mut Viewer<B>,
+    alloc: Global,
+    wanted: &mut Wanted,
+) -> Result<()> {
+    for parcel in [Parcel::Section, Parcel::Undeclared, Parcel::TwoNodes] {
+        tell_sheet(rt, viewer, alloc, parcel, wanted)?;
+    }
+    for place in 0..3 {
+        tell_record_at(rt, viewer, place, wanted)?;
+    }
+    tell_sheet(rt, viewer, alloc, Parcel::Everything, wanted)
+}

@@ -7,9 +7,9 @@ use std::process::Abort;
 use title_device::Device;
 use title_program::serve_desk;
 
-const ROWS: &[u8] = b"party,ADAMS\n\nparty,ADAMS\n1,begin\n";
+static ROWS: &[u8] = b"party,ADAMS\n\nparty,ADAMS\n1,begin\n";
 
-const ANSWERS: &[u8] = b"party,1\nfault,34,2\n1,began\nend,1\n";
+static ANSWERS: &[u8] = b"party,1\nfault,34,2\n1,began\nend,1\n";
 
 // What is written where a source that gives a byte a pull fails after so many.
 fn written(alloc: Global, good_pulls: u64) -> Vec<u8> {
@@ -53,14 +53,13 @@ fn no_answer_waits_for_the_next_byte(rt: HostRuntime) {
 
 // A sink that has room for so many bytes gets the first of the answers, and nothing is told behind them.
 fn assert_cut(rt: &impl Abort, alloc: Global, room: usize) {
-    let mut source = Device::new(ROWS);
     let mut sink = FakeSink {
         taken: Vec::new(alloc),
         piece: 5,
         room,
         has_failed: false,
     };
-    let ending = serve_desk(alloc, &mut source, &mut sink);
+    let ending = serve_desk(alloc, &mut Device::new(ROWS), &mut sink);
     must(rt, ending.status.code() == 1, "the status");
     let taken = Some(sink.taken.as_slice());
     must(rt, taken == ANSWERS.get(..room), "what is taken");

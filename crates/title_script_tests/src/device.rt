@@ -9,7 +9,7 @@ use std::io::{self, ErrorKind, Read, Write};
 use std::process::Abort;
 use title_device::{Device, Failed, ReadFault, SCRIPT_LIMIT, Sink, Source, read_all, write_all};
 
-const TEXT: &[u8] = b"party,ADAMS\nparty,BELL\n";
+static TEXT: &[u8] = b"party,ADAMS\nparty,BELL\n";
 
 // A reader of a byte a turn, which fails at one turn, and would go on after it.
 #[derive(Drop)]

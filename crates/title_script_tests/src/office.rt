@@ -10,7 +10,7 @@ use title_program::Fault;
 use title_script::RunFault;
 use title_trace::Denial;
 
-const LINES: [(OfficeFault, &str); 16] = [
+static LINES: [(OfficeFault, &str); 16] = [
     (OfficeFault::Run(RunFault::Row(4)), "fault,31,4"),
     (
         OfficeFault::Worker(WorkerFault::Denied(Denial::NotOpen)),

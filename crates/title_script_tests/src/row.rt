@@ -37,7 +37,7 @@ fn assert_said(rt: &impl Abort, alloc: Global, rows: &[(&str, &str)]) {
     }
 }
 
-const ROWS: [(&str, &str); 10] = [
+static ROWS: [(&str, &str); 10] = [
     ("township|T2N R1W", "Some(Township(\"T2N R1W\"))"),
     ("party|ADAMS, J.", "Some(Party(\"ADAMS, J.\"))"),
     ("1|begin", "Some(Step(1, Begin))"),
@@ -90,7 +90,7 @@ fn taken(rt: &impl Abort, alloc: Global, rows: &[(u64, &str)]) -> (usize, usize,
     (plan.parties.len(), plan.townships.len(), plan.lines.len())
 }
 
-const SCRIPT: [(u64, &str); 5] = [
+static SCRIPT: [(u64, &str); 5] = [
     (1, "township|T2N R1W"),
     (2, "party|ADAMS, J."),
     (3, "party|BELL"),

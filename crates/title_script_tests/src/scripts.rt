@@ -54,7 +54,7 @@ fn is_told(rt: &impl Abort, alloc: Global, fault: RunFault, line: &str) -> bool 
     line_of(rt, alloc, fault).as_str() == line
 }
 
-const LINES: [(RunFault, &str); 6] = [
+static LINES: [(RunFault, &str); 6] = [
     (RunFault::Row(4), "fault,31,4"),
     (RunFault::Read, "fault,32"),
     (RunFault::Write, "fault,33"),

@@ -34,7 +34,5 @@ pub fn try_bytes<R: Print + AllocGlobal + Threads + Wait + Sync>(
     for index in 0..script.len() {
         try_values(rt, &mut trial, script, index)?;
     }
-    let tally = trial.tally();
-    println!(rt; "each byte at each index of {name}, {command}: {tally}")?;
-    Ok(())
+    trial.tell(rt, "each byte at each index of ", name, "")
 }

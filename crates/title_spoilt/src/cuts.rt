@@ -1,6 +1,6 @@
 //! Every beginning of a script.
 
-use crate::program::Came;
+use crate::program::{Came, run};
 use crate::reading::Command;
 use crate::trial::Trial;
 use anyhow::Result;
@@ -17,22 +17,28 @@ fn whole_of<'a>(command: Command, beginning: &[u8], whole: &'a Came) -> Option<&
     }
 }
 
-/// Tries each beginning of a script, cut at each byte, and tells what came of them. A report of whole rows has to begin the report
-/// of the whole script.
+// Tries each beginning of a script, cut at each byte. A report of whole rows has to begin the report of the whole script.
+fn cut<R: Print + AllocGlobal + Threads + Wait + Sync>(
+    rt: &R,
+    command: Command,
+    script: &[u8],
+    whole: &Came,
+) -> Result<Trial> {
+    let mut trial = Trial::new(command);
+    for end in 0..=script.len() {
+        let beginning = script.get(..end).unwrap_or(script);
+        trial.try_script(rt, beginning, whole_of(command, beginning, whole))?;
+    }
+    Ok(trial)
+}
+
+/// Tries each beginning of a script, and tells what came of them.
 pub fn try_cuts<R: Print + AllocGlobal + Threads + Wait + Sync>(
     rt: &R,
     name: &str,
     command: Command,
     script: &[u8],
 ) -> Result<()> {
-    let mut trial = Trial::new(command);
-    let whole = trial.came(rt, script)?;
-    for end in 0..=script.len() {
-        let beginning = script.get(..end).unwrap_or(script);
-        let wanted = whole_of(command, beginning, &whole);
-        trial.try_script(rt, beginning, wanted)?;
-    }
-    let tally = trial.tally();
-    println!(rt; "beginnings of {name}, {command}: {tally}")?;
-    Ok(())
+    let trial = cut(rt, command, script, &run(rt, command, script)?)?;
+    trial.tell(rt, "beginnings of ", name, "")
 }

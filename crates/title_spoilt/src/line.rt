@@ -14,11 +14,18 @@ enum Ending {
     Nothing,
 }
 
-/// A row: its fields and what ends it.
-#[derive(Drop)]
+/// A row: its fields with commas between them, and what ends it.
 pub struct Line {
-    fields: Vec<Vec<u8>>,
+    text: Vec<u8>,
     ending: Ending,
+}
+
+// By hand, so that whoever lets one go sees one call.
+impl Drop for Line {
+    fn drop(self) {
+        let Line { text, ending: _ } = self;
+        drop(text);
+    }
 }
 
 impl Ending {
@@ -42,82 +49,86 @@ impl Ending {
     }
 }
 
-// A field between quotes.
-fn quoted(alloc: Global, field: &[u8]) -> Result<Vec<u8>, AllocError> {
-    let mut text = Vec::new(alloc);
-    text.push(b'"')?;
-    text.extend_from_slice(field)?;
-    text.push(b'"')?;
-    Ok(text)
+// How many fields a row has.
+fn count(text: &[u8]) -> usize {
+    let mut count = 1usize;
+    for byte in text {
+        if *byte == b',' {
+            count = count.saturating_add(1);
+        }
+    }
+    count
 }
 
-fn copies(alloc: Global, fields: &[Vec<u8>]) -> Result<Vec<Vec<u8>>, AllocError> {
-    let mut copies = Vec::new(alloc);
-    for field in fields {
-        copies.push(Vec::from_slice(alloc, field.as_slice())?)?;
+// Where a field of a row begins and ends.
+fn bounds(text: &[u8], index: usize) -> (usize, usize) {
+    let (mut field, mut start) = (0usize, 0usize);
+    for (at, byte) in text.iter().enumerate() {
+        if *byte == b',' {
+            if field == index {
+                return (start, at);
+            }
+            field = field.saturating_add(1);
+            start = at.saturating_add(1);
+        }
     }
-    Ok(copies)
+    (start, text.len())
 }
 
 impl Line {
-    fn read(alloc: Global, line: &[u8]) -> Result<Line, AllocError> {
-        let mut fields = Vec::new(alloc);
-        for field in line.split(|byte| *byte == b',') {
-            fields.push(Vec::from_slice(alloc, field)?)?;
-        }
-        Ok(Line {
-            fields,
-            ending: Ending::Feed,
-        })
-    }
-
     /// The same row.
     pub fn copy(&self, alloc: Global) -> Result<Line, AllocError> {
         Ok(Line {
-            fields: copies(alloc, self.fields.as_slice())?,
+            text: Vec::from_slice(alloc, self.text.as_slice())?,
             ending: self.ending,
         })
     }
 
-    fn leave_out(&mut self, index: usize) {
-        if index < self.fields.len() {
-            let _gone = self.fields.remove(index);
-        }
-    }
-
-    fn double(&mut self, alloc: Global, index: usize) -> Result<(), AllocError> {
-        if let Some(field) = self.fields.get(index) {
-            let copy = Vec::from_slice(alloc, field.as_slice())?;
-            self.fields.insert(index, copy)?;
-        }
+    // Makes the row of its bytes before one, of others, and of its bytes from another one on.
+    fn join(
+        &mut self,
+        alloc: Global,
+        before: usize,
+        bytes: &[u8],
+        from: usize,
+    ) -> Result<(), AllocError> {
+        let old = self.text.as_slice();
+        let mut text = Vec::from_slice(alloc, old.get(..before).unwrap_or(old))?;
+        text.extend_from_slice(bytes)?;
+        text.extend_from_slice(old.get(from..).unwrap_or(b""))?;
+        self.text = text;
         Ok(())
     }
 
-    fn quote(&mut self, alloc: Global, index: usize) -> Result<(), AllocError> {
-        if let Some(field) = self.fields.get_mut(index) {
-            let text = quoted(alloc, field.as_slice())?;
-            *field = text;
+    // Leaves out the field between two places, with one of the commas beside it.
+    fn leave_out(&mut self, alloc: Global, start: usize, end: usize) -> Result<(), AllocError> {
+        if start > 0 {
+            self.join(alloc, start.saturating_sub(1), b"", end)
+        } else {
+            self.join(alloc, 0, b"", end.saturating_add(1))
         }
-        Ok(())
+    }
+
+    fn quote(&mut self, alloc: Global, start: usize, end: usize) -> Result<(), AllocError> {
+        self.join(alloc, end, b"\"", end)?;
+        self.join(alloc, start, b"\"", start)
     }
 
     // Cuts the row within a field.
-    fn cut(&mut self, chance: &mut Chance, index: usize) {
-        self.fields.truncate(index.saturating_add(1));
-        if let Some(field) = self.fields.last_mut() {
-            let end = pick(chance, field.len());
-            field.truncate(end);
-        }
+    fn cut(&mut self, chance: &mut Chance, start: usize, end: usize) {
+        let kept = pick(chance, end.saturating_sub(start));
+        self.text.truncate(start.saturating_add(kept));
     }
 
     /// Spoils the row once.
     pub fn spoil(&mut self, alloc: Global, chance: &mut Chance) -> Result<(), AllocError> {
-        let index = pick(chance, self.fields.len());
+        let index = pick(chance, count(self.text.as_slice()));
+        let (start, end) = bounds(self.text.as_slice(), index);
         match chance.below(6) {
-            0 => self.leave_out(index),
-            1 => self.double(alloc, index)?,
-            2 => self.quote(alloc, index)?,
-            3 => self.cut(chance, index),
+            0 => self.leave_out(alloc, start, end)?,
+            1 => self.join(alloc, end, b",", start)?,
+            2 => self.quote(alloc, start, end)?,
+            3 => self.cut(chance, start, end),
             _ => self.ending = Ending::by_chance(chance),
         }
         Ok(())
@@ -125,14 +136,7 @@ impl Line {
 
     // Adds the bytes of the row to a text.
     fn add_to(&self, text: &mut Vec<u8>) -> Result<(), AllocError> {
-        let mut is_first = true;
-        for field in self.fields.as_slice() {
-            if !is_first {
-                text.push(b',')?;
-            }
-            is_first = false;
-            text.extend_from_slice(field.as_slice())?;
-        }
+        text.extend_from_slice(self.text.as_slice())?;
         text.extend_from_slice(self.ending.bytes().as_bytes())
     }
 }
@@ -142,7 +146,10 @@ pub fn lines_of(alloc: Global, script: &[u8]) -> Result<Vec<Line>, AllocError> {
     let script = script.strip_suffix(b"\n").unwrap_or(script);
     let mut lines = Vec::new(alloc);
     for line in script.split(|byte| *byte == b'\n') {
-        lines.push(Line::read(alloc, line)?)?;
+        lines.push(Line {
+            text: Vec::from_slice(alloc, line)?,
+            ending: Ending::Feed,
+        })?;
     }
     Ok(lines)
 }

@@ -33,6 +33,15 @@ use std::rt::Files;
 use std::sync::Wait;
 use std::thread::Threads;
 
+// Scripts, by what command each is run, and how many spoilt ones are made of it.
+static SUBJECTS: [(&str, Command, u32); 5] = [
+    ("places_in_order_of_commit", Command::Run, 775),
+    ("places_in_order_of_commit", Command::Alone, 200),
+    ("quantum_kinds", Command::Run, 200),
+    ("quantum_kinds", Command::Alone, 775),
+    ("threads_two_examiners", Command::Office, 50),
+];
+
 fn script<R: Files + AllocGlobal>(rt: &R, name: &str) -> Result<Vec<u8>> {
     let path = format!(in rt.alloc(); "{name}.csv")?;
     Ok(fs::read(rt, path.as_str())?)
@@ -41,9 +50,7 @@ fn script<R: Files + AllocGlobal>(rt: &R, name: &str) -> Result<Vec<u8>> {
 // Tries the beginnings of a script, and so many spoilt ones.
 fn try_subject<R: Files + Print + AllocGlobal + Threads + Wait + Sync>(
     rt: &R,
-    name: &str,
-    command: Command,
-    count: u32,
+    (name, command, count): (&str, Command, u32),
 ) -> Result<()> {
     let script = script(rt, name)?;
     try_cuts(rt, name, command, script.as_slice())?;
@@ -57,11 +64,8 @@ fn try_small<R: Files + Print + AllocGlobal + Threads + Wait + Sync>(rt: &R) -> 
 }
 
 fn main(rt: HostRuntime) -> Result<()> {
-    let (places, kinds) = ("places_in_order_of_commit", "quantum_kinds");
-    try_subject(&rt, places, Command::Run, 775)?;
-    try_subject(&rt, places, Command::Alone, 200)?;
-    try_subject(&rt, kinds, Command::Run, 200)?;
-    try_subject(&rt, kinds, Command::Alone, 775)?;
-    try_subject(&rt, "threads_two_examiners", Command::Office, 50)?;
+    for subject in &SUBJECTS {
+        try_subject(&rt, *subject)?;
+    }
     try_small(&rt)
 }

@@ -19,10 +19,11 @@ pub fn try_spoilt<R: Print + AllocGlobal + Threads + Wait + Sync>(
     let mut trial = Trial::new(command);
     let mut chance = Chance::new(u64::from(count));
     for _ in 0..count {
-        let text = spoilt(rt.alloc(), &mut chance, script)?;
-        trial.try_script(rt, text.as_slice(), None)?;
+        trial.try_script(
+            rt,
+            spoilt(rt.alloc(), &mut chance, script)?.as_slice(),
+            None,
+        )?;
     }
-    let tally = trial.tally();
-    println!(rt; "{name} spoilt, {command}: {tally}")?;
-    Ok(())
+    trial.tell(rt, "", name, " spoilt")
 }

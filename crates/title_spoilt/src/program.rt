@@ -1,6 +1,7 @@
 //! A script, run through the functions that the program calls.
 
 use crate::reading::{Command, EXAMINERS};
+use crate::report::{field, number};
 use std::alloc::{AllocError, Global};
 use std::fmt;
 use std::sync::Wait;
@@ -13,10 +14,33 @@ use title_script::Schedule;
 const TRIES: u32 = 100;
 
 /// What is printed, and the status after it.
-#[derive(Drop)]
 pub struct Came {
     pub stdout: String,
     pub status: u8,
+}
+
+// By hand, so that whoever lets one go sees one call.
+impl Drop for Came {
+    fn drop(self) {
+        let Came { stdout, status: _ } = self;
+        drop(stdout);
+    }
+}
+
+fn came_of(alloc: Global, stdout: &[u8], status: u8) -> Result<Came, AllocError> {
+    Ok(Came {
+        stdout: String::from_utf8_lossy(alloc, stdout)?,
+        status,
+    })
+}
+
+// How the transactions of a script come; none where an office serves it.
+fn schedule_of(command: Command) -> Option<Schedule> {
+    match command {
+        Command::Run => Some(Schedule::Interleaved),
+        Command::Alone => Some(Schedule::Serial),
+        Command::Office => None,
+    }
 }
 
 /// Does what a command asks for with a script, as the program does: the report, or the line of a fault.
@@ -28,22 +52,12 @@ pub fn run<R: AllocGlobal + Threads + Wait + Sync>(
     let alloc = rt.alloc();
     let mut source = Device::new(script);
     let mut sink = Device::new(Vec::new(alloc));
-    let ending = match command {
-        Command::Run => {
-            let schedule = Schedule::Interleaved;
-            serve(alloc, schedule, &mut source, &mut sink, &mut Unwatched)
-        }
-        Command::Alone => {
-            let schedule = Schedule::Serial;
-            serve(alloc, schedule, &mut source, &mut sink, &mut Unwatched)
-        }
-        Command::Office => serve_office(rt, alloc, EXAMINERS, TRIES, &mut source, &mut sink),
+    let ending = match schedule_of(command) {
+        Some(schedule) => serve(alloc, schedule, &mut source, &mut sink, &mut Unwatched),
+        None => serve_office(rt, alloc, EXAMINERS, TRIES, &mut source, &mut sink),
     };
     let stdout = sink.into_inner();
-    Ok(Came {
-        stdout: String::from_utf8_lossy(alloc, stdout.as_slice())?,
-        status: ending.status.code(),
-    })
+    came_of(alloc, stdout.as_slice(), ending.status.code())
 }
 
 impl Came {
@@ -52,11 +66,14 @@ impl Came {
         self.status == 0
     }
 
-    /// The number of a fault's line, nothing else.
-    pub fn fault(&self) -> Option<u64> {
-        let line = self.stdout.as_str().strip_suffix('\n')?;
-        let (number, _row) = line.strip_prefix("fault,")?.split_once(',')?;
-        number.parse::<u64>().ok()
+    /// The number of a fault's line; the greatest of 64 bits where there is none.
+    pub fn fault(&self) -> u64 {
+        let line = self.stdout.as_str();
+        if field(line, 0) == "fault" {
+            number(line, 1)
+        } else {
+            u64::MAX
+        }
     }
 }
 

@@ -33,22 +33,26 @@ pub enum Kind {
     Order,
 }
 
-/// What a script without a fault says.
-#[derive(Drop)]
-pub struct Good {
+/// What a script is found to be: its first fault, if it has one, and what it says down to that.
+pub struct Verdict {
+    pub fault: Option<Fault>,
     pub steps: Vec<Step>,
     pub has_townships: bool,
 }
 
-/// What a script is found to be.
-#[derive(Drop)]
-pub enum Verdict {
-    Fault(Fault),
-    Good(Good),
+// By hand, so that whoever lets one go sees one call.
+impl Drop for Verdict {
+    fn drop(self) {
+        let Verdict {
+            fault: _,
+            steps,
+            has_townships: _,
+        } = self;
+        drop(steps);
+    }
 }
 
 // What the rows so far have declared and asked for, and whose transactions are open.
-#[derive(Drop)]
 struct Book {
     alloc: Global,
     command: Command,
@@ -56,6 +60,24 @@ struct Book {
     parties: Vec<String>,
     steps: Vec<Step>,
     open: Vec<u64>,
+}
+
+// By hand, so that whoever lets one go sees one call.
+impl Drop for Book {
+    fn drop(self) {
+        let Book {
+            alloc: _,
+            command: _,
+            townships,
+            parties,
+            steps,
+            open,
+        } = self;
+        drop(townships);
+        drop(parties);
+        drop(steps);
+        drop(open);
+    }
 }
 
 impl Kind {
@@ -88,10 +110,10 @@ impl fmt::Display for Fault {
 
 impl fmt::Display for Verdict {
     fn fmt<W: fmt::Write>(&self, f: &mut fmt::Formatter<W>) -> fmt::Result {
-        match self {
-            Verdict::Fault(fault) => write!(f, "{fault}"),
-            Verdict::Good(good) => {
-                let count = good.steps.len();
+        match self.fault {
+            Some(fault) => write!(f, "{fault}"),
+            None => {
+                let count = self.steps.len();
                 write!(f, "a report of {count} steps")
             }
         }
@@ -212,14 +234,33 @@ impl Book {
         }
     }
 
-    fn into_good(self) -> Good {
+    // The first row at fault, if there is one.
+    fn add_rows(&mut self, rows: &[Fields]) -> Result<Option<Fault>, AllocError> {
+        let mut row = 0usize;
+        for fields in rows {
+            row = row.saturating_add(1);
+            if let Some(kind) = self.add_row(fields)? {
+                return Ok(Some(Fault { kind, row }));
+            }
+        }
+        Ok(None)
+    }
+
+    fn into_verdict(self, fault: Option<Fault>) -> Verdict {
         let Book {
-            steps,
+            alloc: _,
+            command: _,
             townships,
-            ..
+            parties,
+            steps,
+            open,
         } = self;
         let has_townships = !townships.is_empty();
-        Good {
+        drop(townships);
+        drop(parties);
+        drop(open);
+        Verdict {
+            fault,
             steps,
             has_townships,
         }
@@ -230,12 +271,6 @@ impl Book {
 pub fn read(alloc: Global, command: Command, script: &[u8]) -> Result<Verdict, AllocError> {
     let rows = rows_of(alloc, script)?;
     let mut book = Book::new(alloc, command);
-    let mut row = 0usize;
-    for fields in rows.as_slice() {
-        row = row.saturating_add(1);
-        if let Some(kind) = book.add_row(fields)? {
-            return Ok(Verdict::Fault(Fault { kind, row }));
-        }
-    }
-    Ok(Verdict::Good(book.into_good()))
+    let fault = book.add_rows(rows.as_slice())?;
+    Ok(book.into_verdict(fault))
 }

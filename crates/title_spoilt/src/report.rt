@@ -1,10 +1,10 @@
 //! Whether a report is one of the steps that were counted.
 
-use crate::reading::{Command, Good};
+use crate::reading::{Command, Verdict};
 use crate::step::{Act, Step};
 
 // The steps whose rows are still to come, and how many rows of a list are.
-#[derive(Drop)]
+#[derive(Clone, Copy)]
 struct Walk<'a> {
     command: Command,
     steps: &'a [Step],
@@ -14,12 +14,13 @@ struct Walk<'a> {
     has_ended: bool,
 }
 
-fn field(line: &str, index: usize) -> &str {
+/// A field of a row; the empty text where there is none.
+pub fn field(line: &str, index: usize) -> &str {
     line.split(',').nth(index).unwrap_or("")
 }
 
-// A number in a field; the greatest of 64 bits where there is none.
-fn number(line: &str, index: usize) -> u64 {
+/// A number in a field; the greatest of 64 bits where there is none.
+pub fn number(line: &str, index: usize) -> u64 {
     field(line, index).parse::<u64>().unwrap_or(u64::MAX)
 }
 
@@ -43,17 +44,25 @@ fn is_answer(act: Act, word: &str) -> bool {
     }
 }
 
+// The word that tells of a step, where it isn't one by which the desk answers.
+fn word_of(command: Command, step: Step) -> Option<&'static str> {
+    match (step.act, step.is_open) {
+        (Act::Begin, false) => Some("began"),
+        (Act::Begin, true) => Some("alreadyopen"),
+        (Act::Commit, true) => Some("committed"),
+        (Act::Abort, true) => Some("aborted"),
+        (Act::Commit | Act::Abort, false) => Some("notopen"),
+        _ if !step.is_readable => Some("description"),
+        (_, false) if command == Command::Run => Some("notopen"),
+        _ => None,
+    }
+}
+
 // Whether a word tells of a step.
 fn is_told_by(command: Command, step: Step, word: &str) -> bool {
-    match (step.act, step.is_open) {
-        (Act::Begin, false) => word == "began",
-        (Act::Begin, true) => word == "alreadyopen",
-        (Act::Commit, true) => word == "committed",
-        (Act::Abort, true) => word == "aborted",
-        (Act::Commit | Act::Abort, false) => word == "notopen",
-        _ if !step.is_readable => word == "description",
-        (_, false) if command == Command::Run => word == "notopen",
-        _ => is_answer(step.act, word),
+    match word_of(command, step) {
+        Some(wanted) => word == wanted,
+        None => is_answer(step.act, word),
     }
 }
 
@@ -119,15 +128,22 @@ fn line_at(report: &str, index: usize) -> &str {
     report.lines().nth(index).unwrap_or("")
 }
 
+// How many transactions an examiner has begun.
+fn begun(steps: &[Step], examiner: u64) -> u64 {
+    let mut begun = 0u64;
+    for step in steps {
+        if step.examiner == examiner && step.act == Act::Begin {
+            begun = begun.saturating_add(1);
+        }
+    }
+    begun
+}
+
 // Whether a row tells of as many transactions as an examiner has begun.
 fn is_done(line: &str, steps: &[Step], examiner: u64) -> bool {
-    let begun = steps
-        .iter()
-        .filter(|step| step.examiner == examiner && step.act == Act::Begin)
-        .count();
     let aborted = number(line, 3).saturating_add(number(line, 4));
     let all = number(line, 2).saturating_add(aborted);
-    begins_with(line, examiner, "done") && all == begun as u64
+    begins_with(line, examiner, "done") && all == begun(steps, examiner)
 }
 
 fn are_done(report: &str, steps: &[Step]) -> bool {
@@ -142,28 +158,35 @@ fn is_settled(report: &str) -> bool {
     field(line, 0) == "settled" && number(line, 1) == committed
 }
 
+// How many rows of a report are rows of a sheet.
+fn rows_in(report: &str) -> usize {
+    let mut rows = 0usize;
+    for line in report.lines() {
+        if begins_with(line, 0, "row") {
+            rows = rows.saturating_add(1);
+        }
+    }
+    rows
+}
+
 // How many rows the sheet has, its first among them, if each is there.
 fn sheet_rows(report: &str, has_townships: bool) -> Option<usize> {
     let line = line_at(report, 3);
-    if !has_townships {
-        return if line == "0,notownship" {
-            Some(1)
-        } else {
-            None
-        };
-    }
-    let count = usize::try_from(number(line, 2)).unwrap_or(0);
-    let rows = report.lines().skip(4).take(count);
-    let there = rows.filter(|row| begins_with(row, 0, "row")).count();
-    if begins_with(line, 0, "sheet") && there == count {
-        Some(count.saturating_add(1))
+    let rows = rows_in(report);
+    let is_whole = if has_townships {
+        begins_with(line, 0, "sheet") && number(line, 2) == rows as u64
+    } else {
+        line == "0,notownship" && rows == 0
+    };
+    if is_whole {
+        Some(rows.saturating_add(1))
     } else {
         None
     }
 }
 
 // Whether a report has a row for each examiner, the records counted, a sheet and the last row.
-fn tells_office(good: &Good, report: &str) -> bool {
+fn tells_office(good: &Verdict, report: &str) -> bool {
     let steps = good.steps.as_slice();
     let Some(rows) = sheet_rows(report, good.has_townships) else {
         return false;
@@ -174,7 +197,7 @@ fn tells_office(good: &Good, report: &str) -> bool {
 }
 
 /// Whether a text is a report of the steps of a script.
-pub fn is_report_of(command: Command, good: &Good, report: &str) -> bool {
+pub fn is_report_of(command: Command, good: &Verdict, report: &str) -> bool {
     let tells = match command {
         Command::Run | Command::Alone => tells_steps(command, good.steps.as_slice(), report),
         Command::Office => tells_office(good, report),
@@ -184,7 +207,15 @@ pub fn is_report_of(command: Command, good: &Good, report: &str) -> bool {
 
 /// Whether the rows of a report, but the last, begin another.
 pub fn begins(report: &str, other: &str) -> bool {
-    let rows = report.lines().count().saturating_sub(1);
-    let mut pairs = report.lines().take(rows).zip(other.lines());
-    pairs.all(|(row, wanted)| row == wanted) && other.lines().count() > rows
+    let mut wanted = other.lines();
+    for row in report
+        .lines()
+        .take(report.lines().count().saturating_sub(1))
+    {
+        match wanted.next() {
+            Some(wanted) if wanted == row => {}
+            _ => return false,
+        }
+    }
+    wanted.next().is_some()
 }

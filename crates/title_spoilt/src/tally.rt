@@ -25,9 +25,9 @@ impl Tally {
             return one_more(&mut self.reports);
         }
         match came.fault() {
-            Some(31) => one_more(&mut self.rows),
-            Some(34) => one_more(&mut self.parties),
-            Some(35) => one_more(&mut self.orders),
+            31 => one_more(&mut self.rows),
+            34 => one_more(&mut self.parties),
+            35 => one_more(&mut self.orders),
             _ => one_more(&mut self.others),
         }
     }
@@ -49,12 +49,11 @@ impl Tally {
 
 impl fmt::Display for Tally {
     fn fmt<W: fmt::Write>(&self, f: &mut fmt::Formatter<W>) -> fmt::Result {
-        let (tried, reports, differ) = (self.tried, self.reports, self.differ);
-        let (rows, parties, orders, others) = (self.rows, self.parties, self.orders, self.others);
-        write!(
-            f,
-            "{tried} tried, {reports} reports, {rows} fault 31, {parties} fault 34, {orders} fault 35, {others} other faults, "
-        )?;
-        write!(f, "{differ} differ")
+        let (tried, reports, rows) = (self.tried, self.reports, self.rows);
+        let (parties, orders) = (self.parties, self.orders);
+        let (others, differ) = (self.others, self.differ);
+        write!(f, "{tried} tried, {reports} reports, {rows} fault 31, ")?;
+        write!(f, "{parties} fault 34, {orders} fault 35, ")?;
+        write!(f, "{others} other faults, {differ} differ")
     }
 }

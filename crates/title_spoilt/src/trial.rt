@@ -24,12 +24,12 @@ fn agrees(
     came: &Came,
 ) -> Result<bool, AllocError> {
     let stdout = came.stdout.as_str();
-    match verdict {
-        Verdict::Fault(fault) => {
+    match verdict.fault {
+        Some(fault) => {
             let line = format!(in alloc; "{fault}\n")?;
             Ok(came.status == 1 && stdout == line.as_str())
         }
-        Verdict::Good(good) => Ok(came.is_report() && is_report_of(command, good, stdout)),
+        None => Ok(came.is_report() && is_report_of(command, verdict, stdout)),
     }
 }
 
@@ -42,9 +42,7 @@ fn show<R: Print + AllocGlobal>(
 ) -> Result<()> {
     let script = String::from_utf8_lossy(rt.alloc(), script)?;
     let script = script.as_str();
-    println!(rt; "differs: {script:?}")?;
-    println!(rt; "  second reading: {verdict}")?;
-    println!(rt; "  program: {came}")?;
+    println!(rt; "differs: {script:?}\n  second reading: {verdict}\n  program: {came}")?;
     Ok(())
 }
 
@@ -57,18 +55,12 @@ impl Trial {
         }
     }
 
-    /// What came of the scripts.
-    pub fn tally(self) -> Tally {
-        self.tally
-    }
-
-    /// What the program makes of a script.
-    pub fn came<R: AllocGlobal + Threads + Wait + Sync>(
-        &self,
-        rt: &R,
-        script: &[u8],
-    ) -> Result<Came, AllocError> {
-        run(rt, self.command, script)
+    /// Tells what came of the scripts, by a name between two texts.
+    pub fn tell(self, rt: &impl Print, before: &str, name: &str, after: &str) -> Result<()> {
+        let (command, tally) = (self.command, self.tally);
+        print!(rt; "{before}{name}{after}, ")?;
+        println!(rt; "{command}: {tally}")?;
+        Ok(())
     }
 
     /// Tries a script, and one that is a beginning of rows also against the report of the whole. The first that differs is shown.
@@ -79,7 +71,7 @@ impl Trial {
         whole: Option<&Came>,
     ) -> Result<()> {
         let verdict = read(rt.alloc(), self.command, script)?;
-        let came = self.came(rt, script)?;
+        let came = run(rt, self.command, script)?;
         let is_begun = match whole {
             Some(whole) => begins(came.stdout.as_str(), whole.stdout.as_str()),
             None => true,

@@ -11,12 +11,13 @@ use title_chain::{Answer, Ask, Posting, Record, Terms};
 use title_desk::{Desk, may_open};
 use title_instrument::{Estates, Instrument, Release};
 use title_land::{Land, Node, Quarter, Township, Tract};
-use title_lock::NodeLocks;
+use title_lock::{Guards, NodeLocks};
 use title_store::Store;
 use title_trace::{Denial, Reply, Request};
 use title_tree_store::TreeStore;
 
-type TestDesk = Desk<TreeStore, NodeLocks>;
+/// A desk over trees. What has one with guards of any kind lays out no desk in its proof, which costs much.
+type TestDesk<G> = Desk<TreeStore, G>;
 
 /// What an examiner asks of the northeast quarter of section 5. A post releases the surface from party 0 to party 1.
 #[derive(Clone, Copy)]
@@ -33,7 +34,7 @@ enum Act {
 }
 
 /// A desk of three parties over these townships.
-fn open(rt: &impl Abort, alloc: Global, townships: &[Township]) -> TestDesk
+fn open(rt: &impl Abort, alloc: Global, townships: &[Township]) -> TestDesk<NodeLocks>
     ensures setting { result.setting ≡ record { parties = 3; townships = townships.now } }
 {
     assert!(rt; may_open(3, townships));
@@ -100,10 +101,10 @@ fn word(reply: &Reply) -> &'static str {
 }
 
 /// The reply to an examiner's act, in a word.
-fn replied(
+fn replied<G: Guards + Drop>(
     rt: &impl Abort,
     alloc: Global,
-    desk: &mut TestDesk,
+    desk: &mut TestDesk<G>,
     examiner: u32,
     act: Act,
 ) -> &'static str {
@@ -111,7 +112,12 @@ fn replied(
 }
 
 /// Each examiner's act is replied to by this word.
-fn assert_replies(rt: &impl Abort, alloc: Global, desk: &mut TestDesk, lines: &[(u32, Act, &str)]) {
+fn assert_replies<G: Guards + Drop>(
+    rt: &impl Abort,
+    alloc: Global,
+    desk: &mut TestDesk<G>,
+    lines: &[(u32, Act, &str)],
+) {
     for (examiner, act, wanted) in lines {
         let word = replied(rt, alloc, desk, *examiner, *act);
         must(rt, word == *wanted, wanted);
@@ -128,7 +134,7 @@ fn assert_record(rt: &impl Abort, records: &[Record]) {
 }
 
 /// The books after a commit and a sweep: one record of one step.
-fn assert_books(rt: &impl Abort, desk: &TestDesk) {
+fn assert_books<G: Guards + Drop>(rt: &impl Abort, desk: &TestDesk<G>) {
     must(rt, !desk.is_open(1) && !desk.is_open(2), "nobody is open");
     assert_record(rt, desk.records());
 }
@@ -137,7 +143,7 @@ fn is_committed(reply: &Reply, place: u64) -> bool {
     matches!(reply, Reply::Committed(number) if *number == place)
 }
 
-fn assert_committed(rt: &impl Abort, desk: &mut TestDesk, place: u64) {
+fn assert_committed<G: Guards + Drop>(rt: &impl Abort, desk: &mut TestDesk<G>, place: u64) {
     let is_so = is_committed(&desk.serve(Request::Commit(1)), place);
     must(rt, is_so, "committed at its place");
 }
@@ -149,7 +155,7 @@ const OPEN: [(u32, Act, &str); 3] = [
 ];
 
 /// Examiner 1 commits a post in the room that was made for it, and examiner 2 is swept away.
-fn fill_books(rt: &impl Abort, alloc: Global, desk: &mut TestDesk) {
+fn fill_books<G: Guards + Drop>(rt: &impl Abort, alloc: Global, desk: &mut TestDesk<G>) {
     assert_replies(rt, alloc, desk, &OPEN);
     must(rt, desk.is_open(1) && desk.is_open(2), "both are open");
     desk.make_room(1).expect(rt, "there is memory");
@@ -157,14 +163,19 @@ fn fill_books(rt: &impl Abort, alloc: Global, desk: &mut TestDesk) {
     must(rt, word(&desk.sweep(2)) == "aborted", "swept");
 }
 
-fn assert_filled(rt: &impl Abort, alloc: Global, desk: &mut TestDesk) {
+fn assert_filled<G: Guards + Drop>(rt: &impl Abort, alloc: Global, desk: &mut TestDesk<G>) {
     fill_books(rt, alloc, desk);
     assert_books(rt, desk);
     desk.is_serial();
 }
 
 /// Everything is the United States': a sheet of a row for each estate.
-fn assert_new(rt: &impl Abort, alloc: Global, desk: &TestDesk, townships: &[Township])
+fn assert_new<G: Guards + Drop>(
+    rt: &impl Abort,
+    alloc: Global,
+    desk: &TestDesk<G>,
+    townships: &[Township],
+)
     requires setting { desk.now.setting ≡ record { parties = 3; townships = townships.now } }
 {
     let plant = Tract::of(Node::Everything);
@@ -203,26 +214,36 @@ fn a_desk_opens_within_its_limits(rt: HostRuntime) {
 }
 
 /// Each of a hundred thousand transactions is committed.
-fn commit_a_hundred_thousand(rt: &impl Abort, desk: &mut TestDesk) {
+fn commit_a_hundred_thousand<G: Guards + Drop>(rt: &impl Abort, desk: &mut TestDesk<G>) {
     for place in 1..100_001 {
         must(rt, word(&desk.serve(Request::Begin(1))) == "began", "began");
         assert_committed(rt, desk, place);
     }
 }
 
-fn assert_a_hundred_thousand(rt: &impl Abort, desk: &mut TestDesk) {
+fn assert_a_hundred_thousand<G: Guards + Drop>(rt: &impl Abort, desk: &mut TestDesk<G>) {
     commit_a_hundred_thousand(rt, desk);
     must(rt, desk.records().len() == 100_000, "all records");
 }
 
 /// Such a step is replied to by this word.
-fn assert_alone(rt: &impl Abort, alloc: Global, desk: &mut TestDesk, step: Step, wanted: &str) {
+fn assert_alone<G: Guards + Drop>(
+    rt: &impl Abort,
+    alloc: Global,
+    desk: &mut TestDesk<G>,
+    step: Step,
+    wanted: &str,
+) {
     let replied = word(&desk.serve_alone(1, ask(rt, alloc, step)));
     must(rt, replied == wanted, wanted);
 }
 
 /// Transactions of one step in one call are committed, each in its place.
-fn assert_committed_alone(rt: &impl Abort, alloc: Global, desk: &mut TestDesk) {
+fn assert_committed_alone<G: Guards + Drop>(
+    rt: &impl Abort,
+    alloc: Global,
+    desk: &mut TestDesk<G>,
+) {
     must(rt, desk.store().holds(&tract(rt, alloc)), "in the plant");
     assert_alone(rt, alloc, desk, Step::Sheet, "rows");
     assert_alone(rt, alloc, desk, Step::Post(7), "posted");
@@ -231,7 +252,7 @@ fn assert_committed_alone(rt: &impl Abort, alloc: Global, desk: &mut TestDesk) {
 }
 
 /// One whose township isn't declared is aborted.
-fn assert_aborted_alone(rt: &impl Abort, alloc: Global, desk: &mut TestDesk) {
+fn assert_aborted_alone<G: Guards + Drop>(rt: &impl Abort, alloc: Global, desk: &mut TestDesk<G>) {
     must(
         rt,
         !desk.store().holds(&tract(rt, alloc)),
@@ -247,7 +268,7 @@ const READS_ON: [(u32, Act, &str); 2] = [
 ];
 
 /// Beside an examiner who has read, a post alone is in its way and is aborted, and a chain alone is committed.
-fn assert_alone_beside(rt: &impl Abort, alloc: Global, desk: &mut TestDesk) {
+fn assert_alone_beside<G: Guards + Drop>(rt: &impl Abort, alloc: Global, desk: &mut TestDesk<G>) {
     assert_replies(rt, alloc, desk, &READS_ON);
     assert_alone(rt, alloc, desk, Step::Post(7), "conflict");
     assert_alone(rt, alloc, desk, Step::Chain, "entries");
@@ -256,7 +277,7 @@ fn assert_alone_beside(rt: &impl Abort, alloc: Global, desk: &mut TestDesk) {
 }
 
 /// Who has a transaction open already commits it with its step alone.
-fn assert_alone_within(rt: &impl Abort, alloc: Global, desk: &mut TestDesk) {
+fn assert_alone_within<G: Guards + Drop>(rt: &impl Abort, alloc: Global, desk: &mut TestDesk<G>) {
     assert_replies(rt, alloc, desk, &[(1, Act::Begin, "began")]);
     assert_alone(rt, alloc, desk, Step::Post(7), "posted");
     must(rt, !desk.is_open(1), "nobody is open");
@@ -275,10 +296,10 @@ enum Trial {
     AloneWithin,
 }
 
-fn try_all(
+fn try_all<G: Guards + Drop>(
     rt: &impl Abort,
     alloc: Global,
-    desk: &mut TestDesk,
+    desk: &mut TestDesk<G>,
     townships: &[Township],
     trial: Trial,
 )

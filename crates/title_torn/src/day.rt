@@ -6,8 +6,10 @@ use std::fs;
 use std::rt::Files;
 use title_lasting::Schedule;
 
+/// A new file.
+pub const NEW: &[u8] = b"titleplant plant 1\n-";
+
 /// A script, what has to come into the file, the report, and what stands then: in numbers but for the tail, and as a script.
-#[derive(Drop)]
 pub struct Day {
     pub name: &'static str,
     pub schedule: Schedule,
@@ -18,14 +20,43 @@ pub struct Day {
     pub told: Vec<u8>,
 }
 
+// By hand, so that whoever lets one go sees one call.
+impl Drop for Day {
+    fn drop(self) {
+        let Day {
+            name: _,
+            schedule: _,
+            script,
+            block,
+            report,
+            standing,
+            told,
+        } = self;
+        drop(script);
+        drop(block);
+        drop(report);
+        drop(standing);
+        drop(told);
+    }
+}
+
 /// A file at rest, and what stands in it, in numbers but for the tail.
-#[derive(Drop)]
 pub struct Plant {
     pub file: Vec<u8>,
     pub standing: Vec<u8>,
 }
 
-fn read<R: Files + AllocGlobal>(rt: &R, name: &str, kind: &str) -> Result<Vec<u8>> {
+// The same.
+impl Drop for Plant {
+    fn drop(self) {
+        let Plant { file, standing } = self;
+        drop(file);
+        drop(standing);
+    }
+}
+
+/// The file of a name and a kind.
+pub fn read_file<R: Files + AllocGlobal>(rt: &R, name: &str, kind: &str) -> Result<Vec<u8>> {
     let path = format!(in rt.alloc(); "{name}.{kind}")?;
     Ok(fs::read(rt, path.as_str())?)
 }
@@ -40,25 +71,12 @@ impl Day {
         Ok(Day {
             name,
             schedule,
-            script: read(rt, name, "csv")?,
-            block: read(rt, name, "block")?,
-            report: read(rt, name, "report")?,
-            standing: read(rt, name, "standing")?,
-            told: read(rt, name, "told")?,
+            script: read_file(rt, name, "csv")?,
+            block: read_file(rt, name, "block")?,
+            report: read_file(rt, name, "report")?,
+            standing: read_file(rt, name, "standing")?,
+            told: read_file(rt, name, "told")?,
         })
-    }
-
-    /// A day of transactions one after another, of which nothing but the script is known.
-    pub fn of_script(alloc: Global, script: Vec<u8>) -> Day {
-        Day {
-            name: "",
-            schedule: Schedule::Serial,
-            script,
-            block: Vec::new(alloc),
-            report: Vec::new(alloc),
-            standing: Vec::new(alloc),
-            told: Vec::new(alloc),
-        }
     }
 }
 
@@ -77,7 +95,7 @@ impl Plant {
     pub fn new(alloc: Global) -> Result<Plant, AllocError> {
         let standing = b"townships,0\nparties,1\ntransactions,0\nposts,0\n";
         Ok(Plant {
-            file: Vec::from_slice(alloc, b"titleplant plant 1\n-")?,
+            file: Vec::from_slice(alloc, NEW)?,
             standing: Vec::from_slice(alloc, standing)?,
         })
     }
@@ -97,7 +115,7 @@ impl Plant {
 
     /// The place of the last transaction.
     pub fn last(&self) -> u64 {
-        number_in(self.standing.as_slice(), 2)
+        last_of(self.standing.as_slice())
     }
 
     /// The bytes that stay as they are, down to the gate at the end.
@@ -107,9 +125,9 @@ impl Plant {
     }
 }
 
-// The number in a row of numbers; the greatest of 64 bits where there is none.
-fn number_in(rows: &[u8], row: usize) -> u64 {
-    let Some(row) = rows.split(|byte| *byte == b'\n').nth(row) else {
+/// The place of the last transaction by what stands, in numbers: its third row; the greatest of 64 bits where there is none.
+pub fn last_of(standing: &[u8]) -> u64 {
+    let Some(row) = standing.split(|byte| *byte == b'\n').nth(2) else {
         return u64::MAX;
     };
     let Some(digits) = row.split(|byte| *byte == b',').nth(1) else {

@@ -1,7 +1,7 @@
 //! A day is served on a plant, torn at each moment, with each call refused, and on what a crash has left.
 
 use crate::day::{Day, Plant};
-use crate::served::{How, PLAIN, Served, serve, serve_flaky};
+use crate::served::{Served, serve_flaky};
 use crate::tally::{Tally, one_more};
 use crate::tearing::{Depth, Mark};
 use crate::trial::Trial;
@@ -47,11 +47,7 @@ impl Trial<'_> {
 
     // Serves the day with one of the disk's calls refused: nothing is told, and the file may be torn as ever.
     fn refuse(&mut self, content: &[u8], call: usize, calls: Calls) -> Result<(), AllocError> {
-        let how = How {
-            refused: Some(call),
-            after: None,
-        };
-        let served = serve(self.alloc, content, self.day, how)?;
+        let served = self.serve(content, Some(call), None)?;
         let is_before = call < calls.mark.call;
         let is_told = match served.outcome {
             Err(LastingFault::Disk) => is_before,
@@ -61,7 +57,8 @@ impl Trial<'_> {
         one_more(&mut self.tally.refused);
         self.must(is_told && served.report.is_empty());
         let made = served.disk.calls().len();
-        self.tear_after(&served.disk, made, calls.mark, Depth::Few)
+        self.tear_after(&served.disk, made, calls.mark, Depth::Few);
+        Ok(())
     }
 
     // Serves the day on a file, and with each call refused.
@@ -71,7 +68,7 @@ impl Trial<'_> {
         cut: usize,
         calls: Calls,
     ) -> Result<Served, AllocError> {
-        let served = serve(self.alloc, content, self.day, PLAIN)?;
+        let served = self.serve(content, None, None)?;
         let is_right = self.is_as_wanted(&served, cut, calls);
         self.must(is_right);
         for call in 0..calls.count {
@@ -84,7 +81,8 @@ impl Trial<'_> {
     pub fn at_rest(&mut self, depth: Depth) -> Result<(), AllocError> {
         let calls = calls_of(self.day, false);
         let served = self.serve_and_refuse(self.before.file.as_slice(), 0, calls)?;
-        self.tear(&served.disk, calls.mark, depth)
+        self.tear(&served.disk, calls.mark, depth);
+        Ok(())
     }
 
     // Serves the day with a reader that fails after so many bytes: the file stays as it is.
@@ -132,64 +130,76 @@ impl Trial<'_> {
         let cut = content.len().saturating_sub(self.before.fixed().len());
         let served = self.serve_and_refuse(content, cut, calls)?;
         for made in 0..=served.disk.calls().len().min(5) {
-            self.tear_after(&served.disk, made, calls.mark, Depth::Lies)?;
+            self.tear_after(&served.disk, made, calls.mark, Depth::Lies);
         }
         Ok(())
     }
 
-    /// Serves the day on a file with each of these in the place of the gate at its end.
-    pub fn on_tails(&mut self, tails: &[Vec<u8>]) -> Result<(), AllocError> {
-        for tail in tails {
-            let mut content = Vec::from_slice(self.alloc, self.before.fixed())?;
-            content.extend_from_slice(tail.as_slice())?;
-            self.on_torn(content.as_slice())?;
+    // Serves the day on a file with this in the place of the gate at its end.
+    fn on_tail(&mut self, tail: &[u8]) -> Result<(), AllocError> {
+        let mut content = Vec::from_slice(self.alloc, self.before.fixed())?;
+        content.extend_from_slice(tail)?;
+        self.on_torn(content.as_slice())
+    }
+
+    /// Serves the day on what a crash may have left in the place of the gate: nothing, a lone open one, another byte, lies behind a closed
+    /// one, and a block behind it, half or whole.
+    pub fn on_tails(&mut self) -> Result<(), AllocError> {
+        for tail in [
+            b"".as_slice(),
+            b"+",
+            b"\n",
+            b"-\n7,begin\n7,commit\nend,1\n+\n7,begin\n",
+        ] {
+            self.on_tail(tail)?;
         }
-        Ok(())
+        let staged = staged(self.alloc, self.day)?;
+        let half = staged.len().saturating_sub(1) / 2;
+        self.on_tail(staged.get(..half).unwrap_or(b""))?;
+        self.on_tail(staged.as_slice())
     }
 }
 
-// What a crash may have left in the place of the gate: nothing, a lone open one, another byte, lies behind a closed one, and a block
-// behind it, half or whole.
-fn tails(alloc: Global, day: &Day) -> Result<Vec<Vec<u8>>, AllocError> {
-    let mut tails = Vec::new(alloc);
-    for tail in [
-        b"".as_slice(),
-        b"+",
-        b"\n",
-        b"-\n7,begin\n7,commit\nend,1\n+\n7,begin\n",
-    ] {
-        tails.push(Vec::from_slice(alloc, tail)?)?;
-    }
+// A closed gate with the day's block behind it.
+fn staged(alloc: Global, day: &Day) -> Result<Vec<u8>, AllocError> {
     let mut staged = Vec::from_slice(alloc, b"-\n1,begin\n")?;
     staged.extend_from_slice(day.block.as_slice())?;
-    let half = staged.get(..staged.len() / 2).unwrap_or(b"");
-    tails.push(Vec::from_slice(alloc, half)?)?;
     staged.push(b'-')?;
-    tails.push(staged)?;
-    Ok(tails)
+    Ok(staged)
 }
 
-/// Tries a day on a plant, and tells what came of it: what stands after it.
-pub fn try_day<R: Print + AllocGlobal>(
+// Tries a day on a plant, after which another stands, and tells what came of it.
+fn try_between<R: Print + AllocGlobal>(
     rt: &R,
-    before: Plant,
+    before: &Plant,
+    after: &Plant,
     day: &Day,
     depth: Depth,
-) -> Result<Plant> {
-    let alloc = rt.alloc();
-    let after = before.after(alloc, day)?;
+) -> Result<()> {
     let mut trial = Trial {
-        alloc,
+        alloc: rt.alloc(),
         day,
-        before: &before,
-        after: &after,
+        before,
+        after,
         tally: Tally::default(),
+        is_short: false,
     };
     trial.at_devices()?;
     trial.at_rest(depth)?;
     trial.tell(rt, "at rest")?;
     trial.tally = Tally::default();
-    trial.on_tails(tails(alloc, day)?.as_slice())?;
-    trial.tell(rt, "torn")?;
+    trial.on_tails()?;
+    trial.tell(rt, "torn")
+}
+
+/// Tries a day on a plant, and tells what came of it: what stands after it.
+pub fn try_day<R: Print + AllocGlobal>(
+    rt: &R,
+    before: &Plant,
+    day: &Day,
+    depth: Depth,
+) -> Result<Plant> {
+    let after = before.after(rt.alloc(), day)?;
+    try_between(rt, before, &after, day, depth)?;
     Ok(after)
 }

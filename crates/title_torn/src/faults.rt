@@ -1,7 +1,6 @@
 //! Scripts that aren't served, each for its reason: the file stays as it is.
 
-use crate::day::Day;
-use crate::served::{How, serve};
+use crate::served::{How, PLAIN, serve};
 use anyhow::Result;
 use std::alloc::{AllocError, Global};
 use title_lasting::LastingFault;
@@ -43,13 +42,11 @@ fn after(place: u64, script: &'static str, fault: LastingFault) -> Case {
 
 // Whether a script isn't served for its reason, and the file was only read.
 fn is_right(alloc: Global, case: Case) -> Result<bool, AllocError> {
-    let script = Vec::from_slice(alloc, case.script.as_bytes())?;
-    let day = Day::of_script(alloc, script);
     let how = How {
-        refused: None,
         after: case.after,
+        ..PLAIN
     };
-    let served = serve(alloc, FILE.as_bytes(), &day, how)?;
+    let served = serve(alloc, FILE.as_bytes(), case.script.as_bytes(), how)?;
     Ok(
         served.outcome == Err(case.fault)
             && served.cut == 0

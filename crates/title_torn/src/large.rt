@@ -1,7 +1,6 @@
 //! A file of 1,000,000 rows with all the parties that there may be: it is told, a day comes behind it, and one party more doesn't.
 
-use crate::day::Day;
-use crate::served::{PLAIN, Told, serve, standing};
+use crate::served::{PLAIN, is_told, serve};
 use anyhow::Result;
 use std::alloc::{AllocError, Global};
 use title_lasting::LastingFault;
@@ -19,27 +18,31 @@ const SCRIPT: &str = "1,deed,1,UNITED STATES,P65535,S,W1/2,,T3N R2W sec 5\n";
 // What comes behind the rows by the script, in the place of the closed gate.
 const BLOCK: &str = "+\n1,deed,1,UNITED STATES,P65535,S,W1/2,,T3N R2W sec 5\nend,934465\n-";
 
-// A party gets the surface of a quarter of a section and gives it back, each by a transaction of its own.
-fn pair(alloc: Global, number: u32) -> Result<String, AllocError> {
-    let (party, section) = (number % PARTIES + 1, number % 36 + 1);
-    let quarter = match number / 36 % 4 {
+fn quarter(number: u32) -> &'static str {
+    match number % 4 {
         0 => "NE1/4",
         1 => "NW1/4",
         2 => "SW1/4",
         _ => "SE1/4",
-    };
-    format!(in alloc;
+    }
+}
+
+// A party gets the surface of a quarter of a section and gives it back, each by a transaction of its own.
+fn add_pair(file: &mut String, number: u32) -> Result<(), AllocError> {
+    let (party, section) = (number % PARTIES + 1, number % 36 + 1);
+    let quarter = quarter(number / 36);
+    write!(
+        file,
         "1,deed,1,UNITED STATES,P{party},S,W1/1,,T3N R2W sec {section} {quarter}\n\
         2,deed,2,P{party},UNITED STATES,S,W1/1,,T3N R2W sec {section} {quarter}\n"
     )
 }
 
 // Declares all the parties that there may be.
-fn add_parties(alloc: Global, file: &mut String) -> Result<(), AllocError> {
+fn add_parties(file: &mut String) -> Result<(), AllocError> {
     file.push_str("titleplant plant 1\n+\ntownship,T3N R2W\n")?;
     for party in 1..=PARTIES {
-        let row = format!(in alloc; "party,P{party}\n")?;
-        file.push_str(row.as_str())?;
+        write!(file, "party,P{party}\n")?;
     }
     Ok(())
 }
@@ -47,7 +50,7 @@ fn add_parties(alloc: Global, file: &mut String) -> Result<(), AllocError> {
 // A file with all the parties, and nothing else.
 fn full_file(alloc: Global) -> Result<String, AllocError> {
     let mut file = String::new(alloc);
-    add_parties(alloc, &mut file)?;
+    add_parties(&mut file)?;
     file.push_str("end,0\n-")?;
     Ok(file)
 }
@@ -55,48 +58,36 @@ fn full_file(alloc: Global) -> Result<String, AllocError> {
 // The file of 1,000,000 rows: one block.
 fn large_file(alloc: Global) -> Result<String, AllocError> {
     let mut file = String::new(alloc);
-    add_parties(alloc, &mut file)?;
+    add_parties(&mut file)?;
     for number in 0..PAIRS {
-        let rows = pair(alloc, number)?;
-        file.push_str(rows.as_str())?;
+        add_pair(&mut file, number)?;
     }
     file.push_str("end,934464\n-")?;
     Ok(file)
 }
 
-// Whether what stands is told, in numbers.
-fn is_told(alloc: Global, file: &[u8]) -> Result<bool, AllocError> {
-    Ok(match standing(alloc, file)? {
-        Told::Text(text) => text.as_slice() == STANDING.as_bytes(),
-        _ => false,
-    })
+// Whether a file is another one with the script's rows in the place of the closed gate.
+fn is_behind(file: &[u8], before: &[u8]) -> bool {
+    match file.split_at_checked(before.len().saturating_sub(1)) {
+        Some((stood, added)) => before.starts_with(stood) && added == BLOCK.as_bytes(),
+        None => false,
+    }
 }
 
-// Whether a day comes behind all that stands.
+// Whether a script comes behind all that stands.
 fn is_added(alloc: Global, file: &[u8]) -> Result<bool, AllocError> {
-    let day = Day::of_script(alloc, Vec::from_slice(alloc, SCRIPT.as_bytes())?);
-    let served = serve(alloc, file, &day, PLAIN)?;
-    let (stood, added) = match served
-        .disk
-        .bytes()
-        .split_at_checked(file.len().saturating_sub(1))
-    {
-        Some((stood, added)) => (file.starts_with(stood), added == BLOCK.as_bytes()),
-        None => (false, false),
-    };
+    let served = serve(alloc, file, SCRIPT.as_bytes(), PLAIN)?;
     Ok(
         served.outcome.is_ok()
             && served.report.as_slice() == b"1,posted\nend,1\n".as_slice()
-            && stood
-            && added,
+            && is_behind(served.disk.bytes(), file),
     )
 }
 
 // Whether there is no room for one party more, and the file was only read.
 fn is_full(alloc: Global) -> Result<bool, AllocError> {
     let file = full_file(alloc)?;
-    let day = Day::of_script(alloc, Vec::from_slice(alloc, b"party,P65536\n")?);
-    let served = serve(alloc, file.as_bytes(), &day, PLAIN)?;
+    let served = serve(alloc, file.as_bytes(), b"party,P65536\n", PLAIN)?;
     Ok(
         served.outcome == Err(LastingFault::Row(1))
             && served.report.is_empty()
@@ -105,14 +96,17 @@ fn is_full(alloc: Global) -> Result<bool, AllocError> {
     )
 }
 
+fn tell_large<R: Print + AllocGlobal>(rt: &R, file: &[u8]) -> Result<()> {
+    let told = is_told(rt.alloc(), file, STANDING.as_bytes())?;
+    let added = is_added(rt.alloc(), file)?;
+    println!(rt; "1000000 rows are told: {told}; a day comes behind them: {added}")?;
+    Ok(())
+}
+
 /// Tells what stands in a file of 1,000,000 rows, and serves a script on it; and one on a file with all the parties.
 pub fn try_large<R: Print + AllocGlobal>(rt: &R) -> Result<()> {
-    let alloc = rt.alloc();
-    let file = large_file(alloc)?;
-    let told = is_told(alloc, file.as_bytes())?;
-    let added = is_added(alloc, file.as_bytes())?;
-    println!(rt; "1000000 rows are told: {told}; a day comes behind them: {added}")?;
-    let full = is_full(alloc)?;
+    tell_large(rt, large_file(rt.alloc())?.as_bytes())?;
+    let full = is_full(rt.alloc())?;
     println!(rt; "with 65535 parties one more is refused: {full}")?;
     Ok(())
 }

@@ -3,7 +3,7 @@
 use std::alloc::{AllocError, Global};
 
 // What each lie consists of, once or again and again. A number in it is that of a block's last row.
-const SEEDS: [&str; 19] = [
+static SEEDS: [&str; 19] = [
     "\n",
     "\r\n",
     "+",
@@ -25,15 +25,17 @@ const SEEDS: [&str; 19] = [
     "titleplant plant 1\n+\n",
 ];
 
+fn add_number(alloc: Global, text: &mut Vec<u8>, number: u64) -> Result<(), AllocError> {
+    text.extend_from_slice(format!(in alloc; "{number}")?.as_bytes())
+}
+
 // A seed with its numbers: `#` is how many transactions stand, and `*` one more.
 fn seed_with(alloc: Global, seed: &str, stand: u64) -> Result<Vec<u8>, AllocError> {
-    let more = stand.saturating_add(1);
-    let (stand, more) = (format!(in alloc; "{stand}")?, format!(in alloc; "{more}")?);
     let mut text = Vec::new(alloc);
     for byte in seed.bytes() {
         match byte {
-            b'#' => text.extend_from_slice(stand.as_bytes())?,
-            b'*' => text.extend_from_slice(more.as_bytes())?,
+            b'#' => add_number(alloc, &mut text, stand)?,
+            b'*' => add_number(alloc, &mut text, stand.saturating_add(1))?,
             _ => text.push(byte)?,
         }
     }
@@ -59,14 +61,24 @@ fn add(alloc: Global, lies: &mut Vec<Vec<u8>>, text: &[u8], room: usize) -> Resu
     Ok(())
 }
 
+// Adds the lies that a text makes, once and again and again.
+fn add_both(
+    alloc: Global,
+    lies: &mut Vec<Vec<u8>>,
+    text: &[u8],
+    room: usize,
+) -> Result<(), AllocError> {
+    add(alloc, lies, text, room)?;
+    let lie = again(alloc, text, room)?;
+    add(alloc, lies, lie.as_slice(), room)
+}
+
 /// Lies of at most so many bytes, where so many transactions stand.
 pub fn lies(alloc: Global, room: usize, stand: u64) -> Result<Vec<Vec<u8>>, AllocError> {
     let mut lies = Vec::new(alloc);
-    for seed in SEEDS {
-        let text = seed_with(alloc, seed, stand)?;
-        add(alloc, &mut lies, text.as_slice(), room)?;
-        let text = again(alloc, text.as_slice(), room)?;
-        add(alloc, &mut lies, text.as_slice(), room)?;
+    for seed in &SEEDS {
+        let text = seed_with(alloc, *seed, stand)?;
+        add_both(alloc, &mut lies, text.as_slice(), room)?;
     }
     Ok(lies)
 }

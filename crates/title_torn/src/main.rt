@@ -36,32 +36,40 @@ use tearing::Depth;
 use title_lasting::Schedule;
 use told::try_script;
 
-// The days, one on top of the other: the last file.
-fn try_days<R: Files + Print + AllocGlobal>(rt: &R) -> Result<Plant> {
-    let days = [
-        ("monday", Schedule::Serial, Depth::Beginnings),
-        ("tuesday", Schedule::Interleaved, Depth::Bytes),
-        ("wednesday", Schedule::Serial, Depth::Beginnings),
-        ("thursday", Schedule::Serial, Depth::Beginnings),
-        ("friday", Schedule::Serial, Depth::Bytes),
-        ("saturday", Schedule::Serial, Depth::Beginnings),
-        ("sunday", Schedule::Interleaved, Depth::Beginnings),
-        ("later", Schedule::Serial, Depth::Beginnings),
-    ];
+static DAYS: [(&str, Schedule, Depth); 8] = [
+    ("monday", Schedule::Serial, Depth::Beginnings),
+    ("tuesday", Schedule::Interleaved, Depth::Bytes),
+    ("wednesday", Schedule::Serial, Depth::Beginnings),
+    ("thursday", Schedule::Serial, Depth::Beginnings),
+    ("friday", Schedule::Serial, Depth::Bytes),
+    ("saturday", Schedule::Serial, Depth::Beginnings),
+    ("sunday", Schedule::Interleaved, Depth::Beginnings),
+    ("later", Schedule::Serial, Depth::Beginnings),
+];
+
+// Tries a day of a name on a plant, which becomes what stands after it.
+fn try_named<R: Files + Print + AllocGlobal>(
+    rt: &R,
+    plant: &mut Plant,
+    (name, schedule, depth): (&'static str, Schedule, Depth),
+) -> Result<()> {
+    let day = Day::read(rt, name, schedule)?;
+    *plant = try_day(rt, plant, &day, depth)?;
+    try_script(rt, &day, plant)
+}
+
+// The days, one on top of the other, and the beginnings of the last file.
+fn try_days<R: Files + Print + AllocGlobal>(rt: &R) -> Result<()> {
     let mut plant = Plant::new(rt.alloc())?;
-    for (name, schedule, depth) in days {
-        let day = Day::read(rt, name, schedule)?;
-        plant = try_day(rt, plant, &day, depth)?;
-        try_script(rt, &day, &plant)?;
+    for day in &DAYS {
+        try_named(rt, &mut plant, *day)?;
     }
-    Ok(plant)
+    try_beginnings(rt, plant.file.as_slice())
 }
 
 fn try_all<R: Files + Print + AllocGlobal>(rt: &R) -> Result<()> {
-    let plant = try_days(rt)?;
-    try_beginnings(rt, plant.file.as_slice())?;
-    let day = Day::read(rt, "monday", Schedule::Serial)?;
-    try_files(rt, &day)?;
+    try_days(rt)?;
+    try_files(rt)?;
     try_faults(rt)?;
     try_client(rt)?;
     try_large(rt)
@@ -69,22 +77,24 @@ fn try_all<R: Files + Print + AllocGlobal>(rt: &R) -> Result<()> {
 
 // Whether the first word asks for the calls that are made again where memory is refused.
 fn asks_for_memory(rt: &HostRuntime) -> Result<bool> {
-    for word in env::args(rt)?.skip(1) {
-        return Ok(word.as_str() == "memory");
+    match env::args(rt)?.nth(1) {
+        Some(word) => Ok(word.as_str() == "memory"),
+        None => Ok(false),
     }
-    Ok(false)
+}
+
+// The same, made again.
+fn is_of_memory(rt: &HostRuntime, wanted: &mut Wanted) -> Result<bool> {
+    if let Ok(asked) = asks_for_memory(rt) {
+        return Ok(asked);
+    }
+    wanted.count();
+    asks_for_memory(rt)
 }
 
 fn main(rt: HostRuntime) -> Result<()> {
     let mut wanted = Wanted::new();
-    let is_of_memory = match asks_for_memory(&rt) {
-        Ok(asked) => asked,
-        Err(_) => {
-            wanted.count();
-            asks_for_memory(&rt)?
-        }
-    };
-    if !is_of_memory {
+    if !is_of_memory(&rt, &mut wanted)? {
         try_all(&rt)?;
     }
     memory::tell(&rt, rt.alloc(), &mut wanted)?;

@@ -1,5 +1,6 @@
 //! Days whose calls are made once more where memory was refused: the file then stands as before.
 
+use crate::day::NEW;
 use anyhow::{Result, bail};
 use std::alloc::{AllocError, Global};
 use std::str;
@@ -18,35 +19,36 @@ struct Day {
     after: u64,
 }
 
-const MONDAY: Day = Day {
-    script: "township,T3N R2W\n\
-        party,ADAMS\n\
-        party,\"BELL, J.\"\n\
-        1,deed,1,UNITED STATES,ADAMS,S,W1/1,,T3N R2W sec 5\n\
-        2,begin\n\
-        2,deed,2,ADAMS,\"BELL, J.\",S,W1/2,,\"T3N R2W sec 5 NE1/4, S1/2\"\n\
-        2,chain,T3N R2W sec 5\n\
-        2,commit\n",
-    report: "1,posted\n\
-        2,began\n\
-        2,posted\n\
-        2,chain,2\n\
-        2,entry,1,1,deed,UNITED STATES,ADAMS,S\n\
-        2,entry,0,2,deed,ADAMS,\"BELL, J.\",S\n\
-        2,committed,2\n\
-        end,5\n",
-    before: 0,
-    after: 2,
-};
-
-const TUESDAY: Day = Day {
-    script: "township,T4N R2W\n\
-        party,CLARK\n\
-        1,deed,3,UNITED STATES,CLARK,SOM,I1/2,O1/4,T4N R2W\n",
-    report: "1,posted\nend,1\n",
-    before: 2,
-    after: 3,
-};
+static DAYS: [Day; 2] = [
+    Day {
+        script: "township,T3N R2W\n\
+            party,ADAMS\n\
+            party,\"BELL, J.\"\n\
+            1,deed,1,UNITED STATES,ADAMS,S,W1/1,,T3N R2W sec 5\n\
+            2,begin\n\
+            2,deed,2,ADAMS,\"BELL, J.\",S,W1/2,,\"T3N R2W sec 5 NE1/4, S1/2\"\n\
+            2,chain,T3N R2W sec 5\n\
+            2,commit\n",
+        report: "1,posted\n\
+            2,began\n\
+            2,posted\n\
+            2,chain,2\n\
+            2,entry,1,1,deed,UNITED STATES,ADAMS,S\n\
+            2,entry,0,2,deed,ADAMS,\"BELL, J.\",S\n\
+            2,committed,2\n\
+            end,5\n",
+        before: 0,
+        after: 2,
+    },
+    Day {
+        script: "township,T4N R2W\n\
+            party,CLARK\n\
+            1,deed,3,UNITED STATES,CLARK,SOM,I1/2,O1/4,T4N R2W\n",
+        report: "1,posted\nend,1\n",
+        before: 2,
+        after: 3,
+    },
+];
 
 // More bytes than a report has.
 const ROOM: usize = 1_024;
@@ -93,41 +95,91 @@ impl Wanted {
 }
 
 // What came of a day: how it ended, the bytes of the file, and what was written.
-#[derive(Drop)]
 struct Came {
     outcome: Result<(), LastingFault>,
     file: Vec<u8>,
     report: Vec<u8>,
 }
 
+// By hand, so that whoever lets one go sees one call.
+impl Drop for Came {
+    fn drop(self) {
+        let Came {
+            outcome: _,
+            file,
+            report,
+        } = self;
+        drop(file);
+        drop(report);
+    }
+}
+
+// What came of a day, where the file that stands then could be copied.
+fn came_of(
+    outcome: Result<(), LastingFault>,
+    file: Result<Vec<u8>, AllocError>,
+    report: Vec<u8>,
+) -> Result<Came, AllocError> {
+    Ok(Came {
+        outcome,
+        file: file?,
+        report,
+    })
+}
+
+impl Came {
+    fn into_file(self) -> Vec<u8> {
+        let Came {
+            outcome: _,
+            file,
+            report,
+        } = self;
+        drop(report);
+        file
+    }
+
+    fn has_reported(&self, day: Day) -> bool {
+        self.outcome.is_ok() && self.report.as_slice() == day.report.as_bytes()
+    }
+}
+
+// Serves a day with this room for its report.
 fn run_once(
     alloc: Global,
     day: Day,
-    after: u64,
     file: Vec<u8>,
+    room: Vec<u8>,
     wanted: &mut Wanted,
 ) -> Result<Came, AllocError> {
     let mut disk = TornDisk::new(alloc, file, None);
     let mut source = Device::new(day.script.as_bytes());
-    let mut sink = Device::new(wanted.room(alloc)?);
+    let mut sink = Device::new(room);
     let ended = run_onto(
         alloc,
         Schedule::Serial,
-        Some(after),
+        Some(day.before),
         &mut disk,
         &mut source,
         &mut sink,
         &mut Unwatched,
     );
-    Ok(Came {
-        outcome: ended.outcome,
-        file: wanted.copy(alloc, disk.bytes())?,
-        report: sink.into_inner(),
-    })
+    let file = wanted.copy(alloc, disk.bytes());
+    came_of(ended.outcome, file, sink.into_inner())
 }
 
-// Sees that nothing was told of a day that memory was refused to, and serves it once more on what stands then. Where it was the disk
-// that wanted memory, at its last calls, all of the day may stand.
+// Sees that nothing was told of a day that memory was refused to: the file that stands. Where it was the disk that wanted memory, at its
+// last calls, all of the day may stand.
+fn untold(first: Came, stood: &[u8]) -> Result<Vec<u8>> {
+    if !first.report.is_empty() {
+        bail!("something was told of a day that memory was refused to");
+    }
+    if first.outcome == Err(LastingFault::Memory) && first.file.as_slice() != stood {
+        bail!("something was written before memory was refused");
+    }
+    Ok(first.into_file())
+}
+
+// Serves a day that memory was refused to once more on what stands then.
 fn run_twice(
     alloc: Global,
     day: Day,
@@ -136,26 +188,22 @@ fn run_twice(
     wanted: &mut Wanted,
 ) -> Result<Vec<u8>> {
     wanted.count();
-    if !first.report.is_empty() {
-        bail!("something was told of a day that memory was refused to");
+    let file = untold(first, stood)?;
+    let room = wanted.room(alloc)?;
+    let second = run_once(alloc, day, file, room, wanted)?;
+    if second.has_reported(day) || second.outcome == Err(LastingFault::After(day.after)) {
+        return Ok(second.into_file());
     }
-    if first.outcome == Err(LastingFault::Memory) && first.file.as_slice() != stood {
-        bail!("something was written before memory was refused");
-    }
-    let second = run_once(alloc, day, day.before, first.file, wanted)?;
-    match second.outcome {
-        Ok(()) if second.report.as_slice() == day.report.as_bytes() => Ok(second.file),
-        Err(LastingFault::After(last)) if last == day.after => Ok(second.file),
-        _ => bail!("a day isn't served once more"),
-    }
+    bail!("a day isn't served once more")
 }
 
 // A day on a file at rest: the file after it.
 fn run(alloc: Global, day: Day, stood: &[u8], wanted: &mut Wanted) -> Result<Vec<u8>> {
     let file = wanted.copy(alloc, stood)?;
-    let came = run_once(alloc, day, day.before, file, wanted)?;
+    let room = wanted.room(alloc)?;
+    let came = run_once(alloc, day, file, room, wanted)?;
     match came.outcome {
-        Ok(()) if came.report.as_slice() == day.report.as_bytes() => Ok(came.file),
+        Ok(()) if came.has_reported(day) => Ok(came.into_file()),
         Err(LastingFault::Memory | LastingFault::Disk | LastingFault::Unsure) => {
             run_twice(alloc, day, came, stood, wanted)
         }
@@ -175,49 +223,64 @@ fn tell_once(
     told: Told,
     file: Vec<u8>,
     room: Vec<u8>,
-) -> (Result<(), TellFault>, Vec<u8>) {
+) -> Result<Vec<u8>, TellFault> {
     let mut disk = TornDisk::new(alloc, file, None);
     let mut sink = Device::new(room);
     let outcome = match told {
         Told::Numbers => tell_standing(alloc, &mut disk, &mut sink),
         Told::Script => tell_script(alloc, &mut disk, &mut sink),
     };
-    (outcome, sink.into_inner())
+    outcome.and(Ok(sink.into_inner()))
+}
+
+// What is told of a file that is copied.
+fn text_once(
+    alloc: Global,
+    told: Told,
+    file: &[u8],
+    wanted: &mut Wanted,
+) -> Result<Result<Vec<u8>, TellFault>, AllocError> {
+    let copy = wanted.copy(alloc, file)?;
+    let room = wanted.room(alloc)?;
+    Ok(tell_once(alloc, told, copy, room))
 }
 
 fn text_of(alloc: Global, told: Told, file: &[u8], wanted: &mut Wanted) -> Result<Vec<u8>> {
-    let (copy, room) = (wanted.copy(alloc, file)?, wanted.room(alloc)?);
-    let (outcome, text) = tell_once(alloc, told, copy, room);
-    if outcome != Err(TellFault::Memory) {
-        outcome?;
-        return Ok(text);
+    match text_once(alloc, told, file, wanted)? {
+        Err(TellFault::Memory) => {
+            wanted.count();
+            Ok(text_once(alloc, told, file, wanted)??)
+        }
+        text => Ok(text?),
     }
-    wanted.count();
-    let (copy, room) = (wanted.copy(alloc, file)?, wanted.room(alloc)?);
-    let (outcome, text) = tell_once(alloc, told, copy, room);
-    outcome?;
-    Ok(text)
 }
 
-fn tell_lines(rt: &impl Print, text: &[u8]) -> Result<()> {
-    for line in str::from_utf8(text)?.lines() {
-        println!(rt; "{line}")?;
-    }
+// Tells a text line by line.
+fn tell_text(rt: &impl Print, text: &[u8]) -> Result<()> {
+    let text = str::from_utf8(text)?;
+    println!(rt; "{}", text.strip_suffix('\n').unwrap_or(text))?;
     Ok(())
 }
 
-/// Two days on a new file, and what stands then, in numbers and as a script.
+// The file after the days.
+fn file_after(alloc: Global, days: &[Day], wanted: &mut Wanted) -> Result<Vec<u8>> {
+    let mut file = wanted.copy(alloc, NEW)?;
+    for day in days {
+        file = run(alloc, *day, file.as_slice(), wanted)?;
+    }
+    Ok(file)
+}
+
+// Tells a file, and what stands in it, in numbers and as a script.
+fn tell_file(rt: &impl Print, alloc: Global, file: &[u8], wanted: &mut Wanted) -> Result<()> {
+    tell_text(rt, file)?;
+    tell_text(rt, text_of(alloc, Told::Numbers, file, wanted)?.as_slice())?;
+    tell_text(rt, text_of(alloc, Told::Script, file, wanted)?.as_slice())
+}
+
+/// Two days on a new file, and what stands then.
 pub fn tell(rt: &impl Print, alloc: Global, wanted: &mut Wanted) -> Result<()> {
-    let new = wanted.copy(alloc, b"titleplant plant 1\n-")?;
-    let monday = run(alloc, MONDAY, new.as_slice(), wanted)?;
-    let tuesday = run(alloc, TUESDAY, monday.as_slice(), wanted)?;
+    let file = file_after(alloc, &DAYS, wanted)?;
     println!(rt; "two days:")?;
-    tell_lines(rt, tuesday.as_slice())?;
-    for told in [Told::Numbers, Told::Script] {
-        tell_lines(
-            rt,
-            text_of(alloc, told, tuesday.as_slice(), wanted)?.as_slice(),
-        )?;
-    }
-    Ok(())
+    tell_file(rt, alloc, file.as_slice(), wanted)
 }

@@ -20,7 +20,6 @@ pub struct Numbers {
 }
 
 // What the rows so far have said; the examiner that is inside, with how many posts.
-#[derive(Drop)]
 struct Book {
     alloc: Global,
     townships: Vec<Vec<u8>>,
@@ -28,6 +27,23 @@ struct Book {
     transactions: usize,
     posts: usize,
     inside: Option<Vec<u8>>,
+}
+
+// By hand, so that whoever lets one go sees one call.
+impl Drop for Book {
+    fn drop(self) {
+        let Book {
+            alloc: _,
+            townships,
+            parties,
+            transactions: _,
+            posts: _,
+            inside,
+        } = self;
+        drop(townships);
+        drop(parties);
+        drop(inside);
+    }
 }
 
 // Where in the file a row stands.
@@ -155,17 +171,21 @@ impl Book {
         Ok(if is_end { Taken::Ends } else { Taken::Refused })
     }
 
+    fn take(&mut self, fields: &Fields) -> Result<Taken, AllocError> {
+        match (fields.count(), fields.get(1)) {
+            (2, second) => self.two(fields.get(0), second),
+            (7, b"release") => Ok(self.post(fields)),
+            (9, b"deed" | b"warranty") => Ok(self.post(fields)),
+            _ => Ok(Taken::Refused),
+        }
+    }
+
     fn row(&mut self, line: &[u8]) -> Result<Taken, AllocError> {
         if line.starts_with(b"end,") {
             return self.end(line);
         }
         let fields = fields_of(self.alloc, line)?;
-        match (fields.count(), fields.get(1)) {
-            (2, _) => self.two(fields.get(0), fields.get(1)),
-            (7, b"release") => Ok(self.post(&fields)),
-            (9, b"deed" | b"warranty") => Ok(self.post(&fields)),
-            _ => Ok(Taken::Refused),
-        }
+        self.take(&fields)
     }
 }
 
@@ -180,9 +200,8 @@ fn tail_len(tail: &[u8]) -> usize {
     }
 }
 
-/// What a file is found to be.
-pub fn read(alloc: Global, file: &[u8]) -> Result<Verdict, AllocError> {
-    let mut book = Book::new(alloc)?;
+// What a file is found to be, whose rows go into a book.
+fn read_into(book: &mut Book, file: &[u8]) -> Result<Verdict, AllocError> {
     let (mut state, mut row, mut at) = (State::Head, 0usize, 0usize);
     for line in file.split(|byte| *byte == b'\n') {
         row = row.saturating_add(1);
@@ -213,13 +232,19 @@ pub fn read(alloc: Global, file: &[u8]) -> Result<Verdict, AllocError> {
     Ok(Verdict::Fault(row))
 }
 
+/// What a file is found to be.
+pub fn read(alloc: Global, file: &[u8]) -> Result<Verdict, AllocError> {
+    let mut book = Book::new(alloc)?;
+    read_into(&mut book, file)
+}
+
 impl Numbers {
-    /// The rows that tell these numbers.
-    pub fn rows(self, alloc: Global) -> Result<String, AllocError> {
+    /// The rows that tell these numbers, and so many bytes of a tail.
+    pub fn rows(self, alloc: Global, tail: usize) -> Result<String, AllocError> {
         let (townships, parties) = (self.townships, self.parties);
         let (transactions, posts) = (self.transactions, self.posts);
         format!(in alloc;
-            "townships,{townships}\nparties,{parties}\ntransactions,{transactions}\nposts,{posts}\n"
+            "townships,{townships}\nparties,{parties}\ntransactions,{transactions}\nposts,{posts}\ntail,{tail}\n"
         )
     }
 }

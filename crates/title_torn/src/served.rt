@@ -1,14 +1,15 @@
-//! A day, served on a file that lies on a disk in memory.
+//! A script, served on a file that lies on a disk in memory.
 
 use crate::day::Day;
 use crate::devices::{FlakyReader, FlakyWriter};
 use std::alloc::{AllocError, Global};
 use title_device::Device;
 use title_disk::TornDisk;
-use title_lasting::{LastingFault, TellFault, Unwatched, run_onto, tell_script, tell_standing};
+use title_lasting::{
+    LastingFault, Schedule, TellFault, Unwatched, run_onto, tell_script, tell_standing,
+};
 
-/// What came of a day: the disk, how many bytes were cut off, how it ended, and what was written.
-#[derive(Drop)]
+/// What came of a script: the disk, how many bytes were cut off, how it ended, and what was written.
 pub struct Served {
     pub disk: TornDisk,
     pub cut: usize,
@@ -16,27 +17,43 @@ pub struct Served {
     pub report: Vec<u8>,
 }
 
-/// How a day is served: which call of the disk is refused, and which place has to be the last.
+// By hand, so that whoever lets one go sees one call.
+impl Drop for Served {
+    fn drop(self) {
+        let Served {
+            disk,
+            cut: _,
+            outcome: _,
+            report,
+        } = self;
+        drop(disk);
+        drop(report);
+    }
+}
+
+/// How a script is served: how its transactions come, which call of the disk is refused, and which place has to be the last.
 #[derive(Clone, Copy)]
 pub struct How {
+    pub schedule: Schedule,
     pub refused: Option<usize>,
     pub after: Option<u64>,
 }
 
-/// Nothing refused, and any place the last.
+/// One transaction after another, nothing refused, and any place the last.
 pub const PLAIN: How = How {
+    schedule: Schedule::Serial,
     refused: None,
     after: None,
 };
 
-/// Serves a day's script on a file.
-pub fn serve(alloc: Global, file: &[u8], day: &Day, how: How) -> Result<Served, AllocError> {
+/// Serves a script on a file.
+pub fn serve(alloc: Global, file: &[u8], script: &[u8], how: How) -> Result<Served, AllocError> {
     let mut disk = TornDisk::new(alloc, Vec::from_slice(alloc, file)?, how.refused);
-    let mut source = Device::new(day.script.as_slice());
+    let mut source = Device::new(script);
     let mut sink = Device::new(Vec::new(alloc));
     let ended = run_onto(
         alloc,
-        day.schedule,
+        how.schedule,
         how.after,
         &mut disk,
         &mut source,
@@ -86,21 +103,17 @@ pub fn serve_flaky(
     })
 }
 
-/// What is told of a file, by its bytes or by why it isn't told.
-#[derive(Drop)]
-pub enum Told {
-    Text(Vec<u8>),
-    NotAPlant(usize),
-    NoScript(u64),
-    Other,
+/// What is told of a file, or why it isn't told.
+pub struct Told {
+    pub outcome: Result<(), TellFault>,
+    pub text: Vec<u8>,
 }
 
-fn tell(outcome: Result<(), TellFault>, text: Vec<u8>) -> Told {
-    match outcome {
-        Ok(()) => Told::Text(text),
-        Err(TellFault::NotAPlant(row)) => Told::NotAPlant(row),
-        Err(TellFault::NoScript(row)) => Told::NoScript(row),
-        Err(_) => Told::Other,
+// The same.
+impl Drop for Told {
+    fn drop(self) {
+        let Told { outcome: _, text } = self;
+        drop(text);
     }
 }
 
@@ -109,7 +122,16 @@ pub fn standing(alloc: Global, file: &[u8]) -> Result<Told, AllocError> {
     let mut disk = TornDisk::new(alloc, Vec::from_slice(alloc, file)?, None);
     let mut sink = Device::new(Vec::new(alloc));
     let outcome = tell_standing(alloc, &mut disk, &mut sink);
-    Ok(tell(outcome, sink.into_inner()))
+    Ok(Told {
+        outcome,
+        text: sink.into_inner(),
+    })
+}
+
+/// Whether this is told of what stands in a file, in numbers.
+pub fn is_told(alloc: Global, file: &[u8], text: &[u8]) -> Result<bool, AllocError> {
+    let told = standing(alloc, file)?;
+    Ok(told.outcome.is_ok() && told.text.as_slice() == text)
 }
 
 /// What stands in a file, as a script.
@@ -117,5 +139,8 @@ pub fn script(alloc: Global, file: &[u8]) -> Result<Told, AllocError> {
     let mut disk = TornDisk::new(alloc, Vec::from_slice(alloc, file)?, None);
     let mut sink = Device::new(Vec::new(alloc));
     let outcome = tell_script(alloc, &mut disk, &mut sink);
-    Ok(tell(outcome, sink.into_inner()))
+    Ok(Told {
+        outcome,
+        text: sink.into_inner(),
+    })
 }

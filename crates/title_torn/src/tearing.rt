@@ -100,7 +100,7 @@ impl Mark {
 
 impl Trial<'_> {
     // Looks at what a crash leaves, and serves the day on one of so many that are looked at.
-    fn look_at(
+    fn look_once(
         &mut self,
         disk: &TornDisk,
         moment: Moment,
@@ -116,75 +116,68 @@ impl Trial<'_> {
         Ok(())
     }
 
-    // Each byte in the place of one.
-    fn tear_byte(&mut self, disk: &TornDisk, moment: Moment, mark: Mark) -> Result<(), AllocError> {
-        self.look_at(disk, moment, b"", true, mark)?;
-        for byte in 0..=u8::MAX {
-            self.look_at(disk, moment, &[byte], true, mark)?;
+    // The same, where memory may be short.
+    fn look_at(
+        &mut self,
+        disk: &TornDisk,
+        moment: Moment,
+        garbage: &[u8],
+        later: bool,
+        mark: Mark,
+    ) {
+        if self.look_once(disk, moment, garbage, later, mark).is_err() {
+            self.is_short = true;
         }
-        Ok(())
+    }
+
+    // Each byte in the place of one.
+    fn tear_byte(&mut self, disk: &TornDisk, moment: Moment, mark: Mark) {
+        self.look_at(disk, moment, b"", true, mark);
+        for byte in 0..=u8::MAX {
+            self.look_at(disk, moment, &[byte], true, mark);
+        }
     }
 
     // A few bytes, or none.
-    fn tear_to_few(
-        &mut self,
-        disk: &TornDisk,
-        moment: Moment,
-        mark: Mark,
-    ) -> Result<(), AllocError> {
+    fn tear_to_few(&mut self, disk: &TornDisk, moment: Moment, mark: Mark) {
         for garbage in ["", "+", "-", "\n", "1"] {
-            self.look_at(disk, moment, garbage.as_bytes(), true, mark)?;
-            self.look_at(disk, moment, garbage.as_bytes(), false, mark)?;
+            self.look_at(disk, moment, garbage.as_bytes(), true, mark);
+            self.look_at(disk, moment, garbage.as_bytes(), false, mark);
         }
-        Ok(())
     }
 
-    fn tear_to_lies(
-        &mut self,
-        disk: &TornDisk,
-        moment: Moment,
-        room: usize,
-        mark: Mark,
-    ) -> Result<(), AllocError> {
-        for lie in lies(self.alloc, room, self.before.last())? {
-            self.look_at(disk, moment, lie.as_slice(), true, mark)?;
-            self.look_at(disk, moment, lie.as_slice(), false, mark)?;
+    fn tear_to_lies(&mut self, disk: &TornDisk, moment: Moment, room: usize, mark: Mark) {
+        let Ok(lies) = lies(self.alloc, room, self.before.last()) else {
+            self.is_short = true;
+            return;
+        };
+        for lie in lies.as_slice() {
+            self.look_at(disk, moment, lie.as_slice(), true, mark);
+            self.look_at(disk, moment, lie.as_slice(), false, mark);
         }
-        Ok(())
     }
 
-    fn tear_to_beginnings(
-        &mut self,
-        disk: &TornDisk,
-        moment: Moment,
-        text: &[u8],
-        mark: Mark,
-    ) -> Result<(), AllocError> {
+    fn tear_to_beginnings(&mut self, disk: &TornDisk, moment: Moment, text: &[u8], mark: Mark) {
         for len in 0..text.len() {
             if text.len() <= LONG || len % 3 == 0 {
                 let beginning = text.get(..len).unwrap_or(text);
-                self.look_at(disk, moment, beginning, true, mark)?;
+                self.look_at(disk, moment, beginning, true, mark);
             }
         }
-        Ok(())
     }
 
-    fn tear_to_bytes(
-        &mut self,
-        disk: &TornDisk,
-        moment: Moment,
-        text: &[u8],
-        mark: Mark,
-    ) -> Result<(), AllocError> {
-        let mut changed = Vec::from_slice(self.alloc, text)?;
+    fn tear_to_bytes(&mut self, disk: &TornDisk, moment: Moment, text: &[u8], mark: Mark) {
+        let Ok(mut changed) = Vec::from_slice(self.alloc, text) else {
+            self.is_short = true;
+            return;
+        };
         for index in 0..text.len() {
             for byte in [b'+', b'-', b'\n', b',', b'"', b'0'] {
                 set(&mut changed, index, byte);
-                self.look_at(disk, moment, changed.as_slice(), true, mark)?;
+                self.look_at(disk, moment, changed.as_slice(), true, mark);
             }
             set(&mut changed, index, text.get(index).copied().unwrap_or(0));
         }
-        Ok(())
     }
 
     // A write, torn.
@@ -195,62 +188,47 @@ impl Trial<'_> {
         text: &[u8],
         mark: Mark,
         depth: Depth,
-    ) -> Result<(), AllocError> {
+    ) {
         if depth == Depth::Few || text.len() == 1 && !moment.is_of_last() {
             return self.tear_to_few(disk, moment, mark);
         }
         if text.len() == 1 {
             return self.tear_byte(disk, moment, mark);
         }
-        self.tear_to_lies(disk, moment, text.len(), mark)?;
+        self.tear_to_lies(disk, moment, text.len(), mark);
         if moment.is_of_last() && depth != Depth::Lies {
-            self.tear_to_beginnings(disk, moment, text, mark)?;
+            self.tear_to_beginnings(disk, moment, text, mark);
         }
         if moment.is_of_last() && depth == Depth::Bytes {
-            self.tear_to_bytes(disk, moment, text, mark)?;
+            self.tear_to_bytes(disk, moment, text, mark);
         }
-        Ok(())
     }
 
     // One of the calls, torn.
-    fn tear_call(
-        &mut self,
-        disk: &TornDisk,
-        moment: Moment,
-        mark: Mark,
-        depth: Depth,
-    ) -> Result<(), AllocError> {
+    fn tear_call(&mut self, disk: &TornDisk, moment: Moment, mark: Mark, depth: Depth) {
         match written_by(disk, moment.torn) {
             Some(text) => self.tear_write(disk, moment, text, mark, depth),
             None => {
-                self.look_at(disk, moment, b"", true, mark)?;
-                self.look_at(disk, moment, b"", false, mark)
+                self.look_at(disk, moment, b"", true, mark);
+                self.look_at(disk, moment, b"", false, mark);
             }
         }
     }
 
     /// Looks at all that a crash may leave after each of a disk's calls, with each call torn that no sync follows.
-    pub fn tear(&mut self, disk: &TornDisk, mark: Mark, depth: Depth) -> Result<(), AllocError> {
+    pub fn tear(&mut self, disk: &TornDisk, mark: Mark, depth: Depth) {
         for calls in 0..=disk.calls().len() {
-            self.tear_after(disk, calls, mark, depth)?;
+            self.tear_after(disk, calls, mark, depth);
         }
-        Ok(())
     }
 
     /// The same after so many calls.
-    pub fn tear_after(
-        &mut self,
-        disk: &TornDisk,
-        calls: usize,
-        mark: Mark,
-        depth: Depth,
-    ) -> Result<(), AllocError> {
+    pub fn tear_after(&mut self, disk: &TornDisk, calls: usize, mark: Mark, depth: Depth) {
         let whole = Moment { calls, torn: calls };
-        self.look_at(disk, whole, b"", true, mark)?;
+        self.look_at(disk, whole, b"", true, mark);
         for torn in unsynced(disk, calls)..calls {
-            self.tear_call(disk, Moment { calls, torn }, mark, depth)?;
+            self.tear_call(disk, Moment { calls, torn }, mark, depth);
         }
-        Ok(())
     }
 }
 

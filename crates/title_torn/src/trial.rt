@@ -2,9 +2,9 @@
 
 use crate::day::{Day, Plant};
 use crate::second::{Verdict, read};
-use crate::served::{How, Served, Told, serve, standing};
+use crate::served::{How, Served, is_told, serve};
 use crate::tally::{Tally, one_more};
-use anyhow::Result;
+use anyhow::{Result, bail};
 use std::alloc::{AllocError, Global};
 use title_lasting::LastingFault;
 
@@ -16,14 +16,15 @@ pub enum Allowed {
     After,
 }
 
-/// A day on a plant, and what was tried of it.
-#[derive(Drop)]
+/// A day on a plant, what was tried of it, and whether memory was short, so that not all was.
+#[derive(Clone, Copy)]
 pub struct Trial<'a> {
     pub alloc: Global,
     pub day: &'a Day,
     pub before: &'a Plant,
     pub after: &'a Plant,
     pub tally: Tally,
+    pub is_short: bool,
 }
 
 // For what a content stands.
@@ -34,34 +35,12 @@ enum Side {
     Neither,
 }
 
-// What tells of a file that it is this plant with such a tail.
-fn wanted(alloc: Global, plant: &Plant, tail: usize) -> Result<Vec<u8>, AllocError> {
-    let mut wanted = Vec::from_slice(alloc, plant.standing.as_slice())?;
-    let row = format!(in alloc; "tail,{tail}\n")?;
-    wanted.extend_from_slice(row.as_bytes())?;
-    Ok(wanted)
-}
-
-// Whether a content is told as this plant: by its bytes, by the second reading, and by the first.
-fn is_told_as(
-    alloc: Global,
-    content: &[u8],
-    plant: &Plant,
-    verdict: Verdict,
-    text: &[u8],
-) -> Result<bool, AllocError> {
-    let Verdict::Plant(numbers, tail) = verdict else {
-        return Ok(false);
-    };
-    let rows = numbers.rows(alloc)?;
-    let wanted = wanted(alloc, plant, tail)?;
-    let is_as_long = tail <= content.len().saturating_sub(plant.fixed().len());
-    Ok(
-        content.starts_with(plant.fixed())
-            && is_as_long
-            && rows.as_bytes() == plant.standing.as_slice()
-            && text == wanted.as_slice(),
-    )
+// Whether a content that is told by these rows is this plant with such a tail.
+fn is_of(plant: &Plant, content: &[u8], rows: &[u8], tail: usize) -> bool {
+    let fixed = plant.fixed();
+    content.starts_with(fixed)
+        && tail <= content.len().saturating_sub(fixed.len())
+        && rows.starts_with(plant.standing.as_slice())
 }
 
 // Whether a content may stand for this; of a day that adds nothing both sides are one.
@@ -74,20 +53,27 @@ fn may_be(allowed: Allowed, side: Side) -> bool {
 }
 
 impl Trial<'_> {
-    // For what a content stands.
+    // For what a content stands that is told by these rows.
+    fn side_told(&self, content: &[u8], rows: &[u8], tail: usize) -> Side {
+        if is_of(self.after, content, rows, tail) {
+            Side::After
+        } else if is_of(self.before, content, rows, tail) {
+            Side::Before
+        } else {
+            Side::Neither
+        }
+    }
+
+    // For what a content stands: both readings have to tell it, and its bytes.
     fn side(&self, content: &[u8]) -> Result<Side, AllocError> {
-        let alloc = self.alloc;
-        let Told::Text(text) = standing(alloc, content)? else {
+        let Verdict::Plant(numbers, tail) = read(self.alloc, content)? else {
             return Ok(Side::Neither);
         };
-        let verdict = read(alloc, content)?;
-        if is_told_as(alloc, content, self.after, verdict, text.as_slice())? {
-            return Ok(Side::After);
+        let rows = numbers.rows(self.alloc, tail)?;
+        if !is_told(self.alloc, content, rows.as_bytes())? {
+            return Ok(Side::Neither);
         }
-        if is_told_as(alloc, content, self.before, verdict, text.as_slice())? {
-            return Ok(Side::Before);
-        }
-        Ok(Side::Neither)
+        Ok(self.side_told(content, rows.as_bytes(), tail))
     }
 
     /// Looks at a content.
@@ -123,13 +109,24 @@ impl Trial<'_> {
         is_at_rest && is_right
     }
 
+    /// Serves the day on a content: which call of the disk is refused, and which place has to be the last.
+    pub fn serve(
+        &self,
+        content: &[u8],
+        refused: Option<usize>,
+        after: Option<u64>,
+    ) -> Result<Served, AllocError> {
+        let how = How {
+            schedule: self.day.schedule,
+            refused,
+            after,
+        };
+        serve(self.alloc, content, self.day.script.as_slice(), how)
+    }
+
     /// Serves the day on a content, where it doesn't count yet: the file comes to rest with it.
     pub fn serve_again(&mut self, content: &[u8]) -> Result<(), AllocError> {
-        let how = How {
-            refused: None,
-            after: Some(self.before.last()),
-        };
-        let served = serve(self.alloc, content, self.day, how)?;
+        let served = self.serve(content, None, Some(self.before.last()))?;
         one_more(&mut self.tally.served);
         if !self.is_served_once(&served) {
             one_more(&mut self.tally.differ);
@@ -139,6 +136,9 @@ impl Trial<'_> {
 
     /// Tells what came of it all.
     pub fn tell(&self, rt: &impl Print, what: &str) -> Result<()> {
+        if self.is_short {
+            bail!("memory is short");
+        }
         let (name, tally) = (self.day.name, self.tally);
         println!(rt; "{name}, {what}: {tally}")?;
         Ok(())

@@ -4,7 +4,7 @@ use std::fmt;
 use std::process::ExitCode;
 
 /// How many command lines gave what is stored, and how many didn't.
-#[derive(Clone, Copy, Debug, Default, PartialEq, Eq)]
+#[derive(Clone, Copy, Default)]
 pub struct Tally {
     passed: u32,
     failed: u32,

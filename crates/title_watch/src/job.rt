@@ -23,21 +23,25 @@ impl Job {
         }
     }
 
-    /// The job that the words after the program's name say, in their order. A word that is no number changes nothing.
-    pub fn of_words(rt: &HostRuntime) -> Result<Job> {
+    // The job that these words say.
+    fn said(words: &[String]) -> Job {
         let mut job = Job {
             viewers: 2,
             records: 8,
             sales: 8,
             sheets: 100,
         };
-        let mut index = 0usize;
-        for word in env::args(rt)?.skip(1) {
+        for (index, word) in words.iter().enumerate() {
             if let Ok(number) = word.as_str().parse::<u32>() {
                 job.set(index, number);
             }
-            index = index.saturating_add(1);
         }
-        Ok(job)
+        job
+    }
+
+    /// The job that the words after the program's name say, in their order. A word that is no number changes nothing.
+    pub fn of_words(rt: &HostRuntime) -> Result<Job> {
+        let words = env::args(rt)?.skip(1).collect::<Vec<String>>(rt.alloc())?;
+        Ok(Job::said(words.as_slice()))
     }
 }

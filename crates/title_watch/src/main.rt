@@ -2,7 +2,7 @@
 //!
 //!     title_watch VIEWERS RECORDS SALES SHEETS
 //!
-//! An office commits so many records, each a deed of a section. Then 1, 2 or 4 viewers ask for so many sheets each, every one by a
+//! An office commits so many records, each a deed of a section. Then so many viewers ask for so many sheets each, every one by a
 //! thread, while the examiner commits so many records more. Without words it is 2 viewers, 8 records, 8 more and 100 sheets.
 #![tactic(auto)]
 

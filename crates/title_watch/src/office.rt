@@ -37,32 +37,6 @@ fn sell_first<B: Room, R: Wait>(
     }
 }
 
-// Sells from this seat while the viewers ask.
-fn sell_beside<B: Room + Send + Sync, R: Threads + Wait + Sync>(
-    rt: &R,
-    alloc: Global,
-    office: &Office<B>,
-    seat: Seat<B>,
-    viewers: Vec<Viewer<B>>,
-    tract: &Tract,
-    job: Job,
-) -> Result<Told, AllocError> {
-    let records = job.records.saturating_add(job.sales);
-    let selling = Selling {
-        rt,
-        alloc,
-        office,
-        seat,
-        from: job.records,
-        to: records,
-    };
-    let (sheets, sold) = watch_all(tract, viewers, job.sheets, selling);
-    match sold {
-        Ok(_) => Ok(Told { records, sheets }),
-        Err(why) => Err(why),
-    }
-}
-
 // Sells while the viewers ask.
 fn sell_and_watch<B: Room + Send + Sync, R: Threads + Wait + Sync>(
     rt: &R,
@@ -70,11 +44,23 @@ fn sell_and_watch<B: Room + Send + Sync, R: Threads + Wait + Sync>(
     office: &Office<B>,
     seats: Vec<Seat<B>>,
     viewers: Vec<Viewer<B>>,
+    tract: &Tract,
     job: Job,
 ) -> Result<Told, AllocError> {
     let seat = sell_first(rt, alloc, office, seats, job.records)?;
-    let tract = first_section(alloc)?;
-    sell_beside(rt, alloc, office, seat, viewers, &tract, job)
+    let selling = Selling {
+        rt,
+        alloc,
+        office,
+        seat,
+        from: job.records,
+        to: job.records.saturating_add(job.sales),
+    };
+    let (sheets, records) = watch_all(tract, viewers, job.sheets, selling);
+    Ok(Told {
+        records: records?,
+        sheets: sheets?,
+    })
 }
 
 fn run_in_office<B: Room + Send + Sync, R: Threads + Wait + Sync>(
@@ -83,6 +69,7 @@ fn run_in_office<B: Room + Send + Sync, R: Threads + Wait + Sync>(
     ledger: Ledger,
     parties: u32,
     townships: &[Township],
+    tract: &Tract,
     job: Job,
 ) -> Result<Told, AllocError>
     requires book { ledger ≡ B.book }
@@ -99,7 +86,7 @@ fn run_in_office<B: Room + Send + Sync, R: Threads + Wait + Sync>(
         seats,
         viewers,
     } = opened;
-    let told = sell_and_watch(rt, alloc, &office, seats, viewers, job);
+    let told = sell_and_watch(rt, alloc, &office, seats, viewers, tract, job);
     office.close(rt);
     told
 }
@@ -110,12 +97,13 @@ fn run_once<R: Threads + Wait + Sync>(
     alloc: Global,
     parties: u32,
     townships: &[Township],
+    tract: &Tract,
     job: Job,
 ) -> Result<Told, AllocError>
     requires may_open { MayOpen parties townships.now }
     requires viewers { job.viewers ≤ most_viewers }
 {
-    run_in_office::<Brand, _>(rt, alloc, Ledger::new(), parties, townships, job)
+    run_in_office::<Brand, _>(rt, alloc, Ledger::new(), parties, townships, tract, job)
 }
 
 /// Does the job; `None` where an office can't have so many viewers.
@@ -131,5 +119,6 @@ pub fn run<R: Threads + Wait + Sync>(
     if job.viewers > MOST_VIEWERS || !may_open(2, &townships) {
         return Ok(None);
     }
-    Ok(Some(run_once(rt, alloc, 2, &townships, job)?))
+    let tract = first_section(alloc)?;
+    Ok(Some(run_once(rt, alloc, 2, &townships, &tract, job)?))
 }

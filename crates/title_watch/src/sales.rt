@@ -51,27 +51,16 @@ fn posting(alloc: Global, number: u32) -> Result<Posting, AllocError> {
     Posting::new(alloc, terms)
 }
 
-fn begin<B: Room, R: Wait>(
-    rt: &R,
-    office: &Office<B>,
-    seat: Seat<B>,
-) -> Result<Slip<B>, AllocError> {
-    match office.begin(rt, seat) {
-        Ok(slip) => Ok(slip),
-        Err(_) => Err(AllocError),
-    }
-}
-
-fn post<B: Room, R: Wait>(
-    rt: &R,
-    office: &Office<B>,
-    slip: &mut Slip<B>,
-    posting: Posting,
-) -> Result<(), AllocError> {
-    match office.post(rt, slip, posting) {
-        Ok(()) => Ok(()),
-        Err(_) => Err(AllocError),
-    }
+fn seat_of<B: Room>(done: Done<B>) -> Seat<B> {
+    let Done {
+        place: _,
+        rec,
+        receipt,
+        seat,
+    } = done;
+    drop(rec);
+    drop(receipt);
+    seat
 }
 
 fn commit<B: Room, R: Wait>(
@@ -80,11 +69,11 @@ fn commit<B: Room, R: Wait>(
     slip: Slip<B>,
 ) -> Result<Seat<B>, AllocError> {
     match office.commit(rt, slip) {
-        Ok(done) => {
-            let Done { seat, .. } = done;
-            Ok(seat)
+        Ok(done) => Ok(seat_of(done)),
+        Err(back) => {
+            drop(back);
+            Err(AllocError)
         }
-        Err(_) => Err(AllocError),
     }
 }
 
@@ -96,7 +85,10 @@ fn commit_post<B: Room, R: Wait>(
     posting: Posting,
 ) -> Result<Seat<B>, AllocError> {
     let mut slip = slip;
-    post(rt, office, &mut slip, posting)?;
+    if office.post(rt, &mut slip, posting).is_err() {
+        drop(slip);
+        return Err(AllocError);
+    }
     commit(rt, office, slip)
 }
 
@@ -109,7 +101,7 @@ fn sell<B: Room, R: Wait>(
     number: u32,
 ) -> Result<Seat<B>, AllocError> {
     let posting = posting(alloc, number)?;
-    let slip = begin(rt, office, seat)?;
+    let slip = office.begin(rt, seat).or(Err(AllocError))?;
     commit_post(rt, office, slip, posting)
 }
 
@@ -125,8 +117,8 @@ pub struct Selling<'a, B: Room, R: Wait> {
 }
 
 impl<B: Room, R: Wait> Selling<'_, B, R> {
-    /// Makes the sales: the seat.
-    pub fn sell(self) -> Result<Seat<B>, AllocError> {
+    /// Makes the sales: the number behind the last.
+    pub fn sell(self) -> Result<u32, AllocError> {
         let Selling {
             rt,
             alloc,
@@ -135,7 +127,8 @@ impl<B: Room, R: Wait> Selling<'_, B, R> {
             from,
             to,
         } = self;
-        sell_all(rt, alloc, office, seat, from, to)
+        sell_all(rt, alloc, office, seat, from, to)?;
+        Ok(to)
     }
 }
 

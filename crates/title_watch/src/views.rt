@@ -3,12 +3,9 @@
 use crate::sales::Selling;
 use std::alloc::AllocError;
 use std::sync::Wait;
-use std::thread::{Threads, join};
+use std::thread::{Threads, join, map_vec};
 use title_land::Tract;
-use title_office::{Room, Seat, Viewer};
-
-/// How many sheets viewers were shown meanwhile, and the seat of the examiner, where all was sold.
-pub type Came<B> = (u64, Result<Seat<B>, AllocError>);
+use title_office::{Room, Viewer};
 
 // Asks a viewer for so many sheets: how many it was shown.
 fn watch<B: Room>(tract: &Tract, mut viewer: Viewer<B>, sheets: u32) -> u64 {
@@ -21,130 +18,36 @@ fn watch<B: Room>(tract: &Tract, mut viewer: Viewer<B>, sheets: u32) -> u64 {
     shown
 }
 
-// One viewer asks.
-fn beside_one<B: Room + Send + Sync, R: Threads + Wait + Sync>(
-    tract: &Tract,
-    first: Viewer<B>,
-    sheets: u32,
-    selling: Selling<B, R>,
-) -> Came<B> {
-    let rt = selling.rt;
-    let (one, sold) = join(rt, || watch(tract, first, sheets), || selling.sell());
-    (one, sold)
+fn sum(counts: &[u64]) -> u64 {
+    let mut sum = 0u64;
+    for count in counts {
+        sum = sum.saturating_add(*count);
+    }
+    sum
 }
 
-// Two viewers ask.
-fn beside_two<B: Room + Send + Sync, R: Threads + Wait + Sync>(
+// Each viewer asks for so many sheets by a thread: how many they were shown.
+fn watch_each<B: Room + Send + Sync, R: Threads + Sync>(
+    rt: &R,
     tract: &Tract,
-    first: Viewer<B>,
-    second: Viewer<B>,
-    sheets: u32,
-    selling: Selling<B, R>,
-) -> Came<B> {
-    let rt = selling.rt;
-    let (one, (other, sold)) = join(
-        rt,
-        || watch(tract, first, sheets),
-        || beside_one(tract, second, sheets, selling),
-    );
-    (one.saturating_add(other), sold)
-}
-
-// Three viewers ask.
-fn beside_three<B: Room + Send + Sync, R: Threads + Wait + Sync>(
-    tract: &Tract,
-    first: Viewer<B>,
-    second: Viewer<B>,
-    third: Viewer<B>,
-    sheets: u32,
-    selling: Selling<B, R>,
-) -> Came<B> {
-    let rt = selling.rt;
-    let (one, (others, sold)) = join(
-        rt,
-        || watch(tract, first, sheets),
-        || beside_two(tract, second, third, sheets, selling),
-    );
-    (one.saturating_add(others), sold)
-}
-
-// Four viewers ask.
-fn beside_four<B: Room + Send + Sync, R: Threads + Wait + Sync>(
-    tract: &Tract,
-    first: Viewer<B>,
-    second: Viewer<B>,
-    third: Viewer<B>,
-    fourth: Viewer<B>,
-    sheets: u32,
-    selling: Selling<B, R>,
-) -> Came<B> {
-    let rt = selling.rt;
-    let (one, (others, sold)) = join(
-        rt,
-        || watch(tract, first, sheets),
-        || beside_three(tract, second, third, fourth, sheets, selling),
-    );
-    (one.saturating_add(others), sold)
-}
-
-// Three viewers, and one of these.
-fn beside_more<B: Room + Send + Sync, R: Threads + Wait + Sync>(
-    tract: &Tract,
-    first: Viewer<B>,
-    second: Viewer<B>,
-    third: Viewer<B>,
     viewers: Vec<Viewer<B>>,
     sheets: u32,
-    selling: Selling<B, R>,
-) -> Came<B> {
-    let mut viewers = viewers;
-    match viewers.pop() {
-        Some(fourth) => beside_four(tract, first, second, third, fourth, sheets, selling),
-        None => beside_three(tract, first, second, third, sheets, selling),
-    }
+) -> Result<u64, AllocError> {
+    let counts = map_vec(rt, viewers, &|viewer| watch(tract, viewer, sheets))?;
+    Ok(sum(counts.as_slice()))
 }
 
-// Two viewers, and two of these.
-fn beside_pair<B: Room + Send + Sync, R: Threads + Wait + Sync>(
-    tract: &Tract,
-    first: Viewer<B>,
-    second: Viewer<B>,
-    viewers: Vec<Viewer<B>>,
-    sheets: u32,
-    selling: Selling<B, R>,
-) -> Came<B> {
-    let mut viewers = viewers;
-    match viewers.pop() {
-        Some(third) => beside_more(tract, first, second, third, viewers, sheets, selling),
-        None => beside_two(tract, first, second, sheets, selling),
-    }
-}
-
-// A viewer, and three of these.
-fn beside_first<B: Room + Send + Sync, R: Threads + Wait + Sync>(
-    tract: &Tract,
-    first: Viewer<B>,
-    viewers: Vec<Viewer<B>>,
-    sheets: u32,
-    selling: Selling<B, R>,
-) -> Came<B> {
-    let mut viewers = viewers;
-    match viewers.pop() {
-        Some(second) => beside_pair(tract, first, second, viewers, sheets, selling),
-        None => beside_one(tract, first, sheets, selling),
-    }
-}
-
-/// Sells while these viewers, four at most, ask for so many sheets each. Others aren't asked.
+/// Sells while each of these viewers asks for so many sheets: how many they were shown, and how many records there are then.
 pub fn watch_all<B: Room + Send + Sync, R: Threads + Wait + Sync>(
     tract: &Tract,
     viewers: Vec<Viewer<B>>,
     sheets: u32,
     selling: Selling<B, R>,
-) -> Came<B> {
-    let mut viewers = viewers;
-    match viewers.pop() {
-        Some(first) => beside_first(tract, first, viewers, sheets, selling),
-        None => (0, selling.sell()),
-    }
+) -> (Result<u64, AllocError>, Result<u32, AllocError>) {
+    let rt = selling.rt;
+    join(
+        rt,
+        move || watch_each(rt, tract, viewers, sheets),
+        || selling.sell(),
+    )
 }

@@ -106,6 +106,25 @@ pub(crate) fn telling_advice(
     }
 }
 
+// The name of the file in which bytes are kept that were cut off the end of another.
+fn name_beside(alloc: Global, path: &str) -> Result<String, AllocError> {
+    let name = match path.rsplit_once('/') {
+        Some((_, name)) => name,
+        None => path,
+    };
+    format!(in alloc; "{name}.cut")
+}
+
+// What became of bytes that were cut off, or of one.
+fn what_became(is_one: bool, is_kept: bool) -> &'static str {
+    match (is_one, is_kept) {
+        (true, true) => "was cut off; it is kept",
+        (true, false) => "was cut off; it couldn't be kept",
+        (false, true) => "were cut off; they are kept",
+        (false, false) => "were cut off; they couldn't be kept",
+    }
+}
+
 /// That bytes at the end of a plant's file didn't count, and whether they are kept in one beside, in a line.
 pub(crate) fn cut_advice(
     alloc: Global,
@@ -113,23 +132,11 @@ pub(crate) fn cut_advice(
     bytes: usize,
     is_kept: bool,
 ) -> Result<String, AllocError> {
-    let name = match path.rsplit_once('/') {
-        Some((_, name)) => name,
-        None => path,
-    };
-    let beside = format!(in alloc; "{name}.cut")?;
+    let beside = name_beside(alloc, path)?;
     let (path, beside) = (Quoted(path), Quoted(beside.as_str()));
-    let (unit, were, they, are) = if bytes == 1 {
-        ("byte", "was", "it", "is")
-    } else {
-        ("bytes", "were", "they", "are")
-    };
-    let cut = format!(in alloc;
-        "{bytes} {unit} at the end of {path} didn't count, and {were} cut off"
-    )?;
-    if is_kept {
-        format!(in alloc; "{cut}; {they} {are} kept beside it in {beside}\n")
-    } else {
-        format!(in alloc; "{cut}; {they} couldn't be kept beside it in {beside}\n")
-    }
+    let unit = if bytes == 1 { "byte" } else { "bytes" };
+    let became = what_became(bytes == 1, is_kept);
+    format!(in alloc;
+        "{bytes} {unit} at the end of {path} didn't count, and {became} beside it in {beside}\n"
+    )
 }

@@ -9,7 +9,7 @@ pub struct Cut {
     pub given: Result<(usize, &'static str), &'static str>,
 }
 
-pub const SCRIPT: &[u8] = b"township,T3N R2W\n\
+pub static SCRIPT: &[u8] = b"township,T3N R2W\n\
     party,ADAMS\n\
     party,BELL\n\
     1,begin\n\
@@ -22,7 +22,7 @@ pub const SCRIPT: &[u8] = b"township,T3N R2W\n\
     3,begin\n\
     3,chain,T3N R2W\n";
 
-pub const REPORT: &[u8] = b"1,began\n\
+pub static REPORT: &[u8] = b"1,began\n\
     2,began\n\
     1,posted\n\
     2,posted\n\
