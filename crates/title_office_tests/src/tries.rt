@@ -3,7 +3,6 @@
 ghost use Rattle.std.specs.Prelude.{◌≡◌, [], ◌∷◌};
 ghost use Rattle.title_office.specs.Workers.{examiners_of, seat_examiners};
 
-use crate::asked::Asked;
 use crate::checks::must;
 use crate::days::{WHOLE, begin_with_deed, commit_at, open, township, two_of};
 use crate::turns::script;
@@ -148,54 +147,40 @@ fn work_alone<B: Room + Send + Sync, R: Threads + Wait + Abort + Sync>(
     }
 }
 
-/// An office at which a worker runs a case.
-trait RunsCase: Asked {
-    /// The seat comes back.
-    fn run_case<R: Threads + Wait + Abort + Sync>(
-        &self,
-        rt: &R,
-        alloc: Global,
-        seat: Self::Seat,
-        case: &Case,
-    ) -> Self::Seat;
-}
-
-impl<B: Room + Send + Sync> RunsCase for Office<B> {
-    fn run_case<R: Threads + Wait + Abort + Sync>(
-        &self,
-        rt: &R,
-        alloc: Global,
-        seat: Seat<B>,
-        case: &Case,
-    ) -> Seat<B> {
-        let counts = Counts::new();
-        let worked = work_alone(rt, alloc, self, seat, case, &counts);
-        assert_counts(rt, &counts, case);
-        assert_worked(rt, &worked, case);
-        seat_back(rt, worked)
-    }
-}
-
-fn run_cases<O: RunsCase, R: Threads + Wait + Abort + Sync>(
+fn run_case<B: Room + Send + Sync, R: Threads + Wait + Abort + Sync>(
     rt: &R,
     alloc: Global,
-    office: &O,
-    seat: O::Seat,
+    office: &Office<B>,
+    seat: Seat<B>,
+    case: &Case,
+) -> Seat<B> {
+    let counts = Counts::new();
+    let worked = work_alone(rt, alloc, office, seat, case, &counts);
+    assert_counts(rt, &counts, case);
+    assert_worked(rt, &worked, case);
+    seat_back(rt, worked)
+}
+
+fn run_cases<B: Room + Send + Sync, R: Threads + Wait + Abort + Sync>(
+    rt: &R,
+    alloc: Global,
+    office: &Office<B>,
+    seat: Seat<B>,
     cases: &[Case],
 ) {
     let mut seat = seat;
     for case in cases {
-        seat = office.run_case(rt, alloc, seat, case);
+        seat = run_case(rt, alloc, office, seat, case);
     }
 }
 
 // The first examiner has section 5 all the while, and commits behind what the second one's workers committed.
-fn try_beside<O: RunsCase, R: Threads + Wait + Abort + Sync>(
+fn try_beside<B: Room + Send + Sync, R: Threads + Wait + Abort + Sync>(
     rt: &R,
     alloc: Global,
-    office: &O,
-    first: O::Seat,
-    second: O::Seat,
+    office: &Office<B>,
+    first: Seat<B>,
+    second: Seat<B>,
 ) {
     let slip = begin_with_deed(rt, alloc, office, first, 5, WHOLE);
     run_cases(rt, alloc, office, second, &CASES);
