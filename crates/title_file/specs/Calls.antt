@@ -4,8 +4,8 @@ use Rattle.title_disk.specs.Crashes.{Torn, Cut}
 
 -- a call, and whether the system has answered that it is done
 pub data Call : Type 0 where
-  -- the file had these bytes, all of them on the disk
-  opened : List ℕ → Call
+  -- the file of this name had these bytes, all of them on the disk
+  opened : List ℕ → List ℕ → Call
   -- these bytes, at this offset
   written : ℕ → List ℕ → Bool → Call
   -- to this length
@@ -18,7 +18,7 @@ pub data Call : Type 0 where
 
 -- What a read returns after a call. After one that isn't done nobody reads.
 abbrev pub after : Call → List ℕ → List ℕ
-after (opened bytes) old = bytes
+after (opened path bytes) old = bytes
 after (written at bytes true) old = take at old ++ bytes ++ drop (at + length bytes) old
 after (written at bytes false) old = old
 after (cut len true) old = take len old
@@ -32,9 +32,15 @@ abbrev pub seen : List Call → List ℕ
 seen [] = []
 seen (call ∷ earlier) = after call (seen earlier)
 
+-- the name by which the file was opened last
+abbrev pub name_of : List Call → List ℕ
+name_of [] = []
+name_of (opened path bytes ∷ earlier) = path
+name_of (call ∷ earlier) = name_of earlier
+
 -- what a call may make of a content until the next sync, whether it is done or not
 abbrev pub Leaves : Call → List ℕ → List ℕ → Type 0
-Leaves (opened bytes) old new = ⊥
+Leaves (opened path bytes) old new = ⊥
 Leaves (written at bytes done) old new = Torn at (length bytes) old new
 Leaves (cut len done) old new = Cut len old new
 Leaves (synced true) old new = ⊥
@@ -56,7 +62,7 @@ LeftSince (call ∷ earlier) number content =
 
 -- whether a call isn't done
 abbrev pub fails : Call → Bool
-fails (opened bytes) = false
+fails (opened path bytes) = false
 fails (written at bytes done) = not done
 fails (cut len done) = not done
 fails (synced done) = not done

@@ -1,11 +1,15 @@
 -- What a plant's file shows of itself.
 use Rattle.std.specs.Prelude.{ℕ, ◌-◌, Bool, List, length, take}
-use Rattle.title_file.specs.{Calls.{Call, seen, MayLeave, LeftSince, has_failed}, declared.{drawer.Drawer.{Drawer}, holding.Hold.{Hold}}}
+use Rattle.title_file.specs.{Calls.{Call, seen, name_of, MayLeave, LeftSince, has_failed}, declared.{drawer.Drawer.{Drawer}, holding.Hold.{Hold}}}
 use Rattle.title_file.specs.declared.{plant_file.PlantFile.{PlantFile}, shared_file.SharedFile.{SharedFile}}
 
 -- the calls on it, the newest first
 abbrev pub calls_of : PlantFile → List Call
 calls_of file = file.record.calls
+
+-- the name by which it was opened
+abbrev pub file_name : PlantFile → List ℕ
+file_name file = name_of (calls_of file)
 
 -- the bytes that a read returns
 abbrev pub file_seen : PlantFile → List ℕ
@@ -24,6 +28,10 @@ abbrev pub file_has_failed : PlantFile → Bool
 file_has_failed file = has_failed (calls_of file)
 
 -- ---- where it is shared
+
+-- the name by which it was opened
+abbrev pub shared_name : SharedFile → List ℕ
+shared_name file = name_of file.record.calls
 
 -- the bytes that were read of it
 abbrev pub shared_seen : SharedFile → List ℕ

@@ -3,7 +3,7 @@ use Rattle.title_file.specs.{Calls.{Call, opened, written, cut, synced, kept, un
 use Rattle.title_file.specs.declared.record.Note.TheVariants as note
 
 abbrev pub call_of : Note → Call
-call_of (note.Opened bytes) = opened bytes.now
+call_of (note.Opened path bytes) = opened path.now bytes.now
 call_of (note.Written at bytes done) = written at bytes.now done
 call_of (note.Cut len done) = cut len done
 call_of (note.Synced done) = synced done

@@ -39,9 +39,9 @@ pub record IsSecured (head file : List ℕ) (is_kept : Bool) (calls : List Call)
   pub none : IfNone gates (IsErr (blocks_behind head file))
   pub calls_are : calls ≡ secure_calls gates file is_kept
 
--- a file with this first row was opened by these calls
-pub record IsOpening (head : List ℕ) (is_kept : Bool) (calls : List Call) : Type 0 where
+-- the file of this name, with this first row, was opened by these calls
+pub record IsOpening (path head : List ℕ) (is_kept : Bool) (calls : List Call) : Type 0 where
   pub file : List ℕ
   pub before : List Call
   pub secured : IsSecured head file is_kept before
-  pub calls_are : calls ≡ opened file ∷ synced true ∷ before
+  pub calls_are : calls ≡ opened path file ∷ synced true ∷ before

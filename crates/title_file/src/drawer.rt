@@ -3,7 +3,8 @@
 ghost use Rattle.std.specs.{Prelude.{◌≡◌, ◌≤◌, ◌<◌, ◌-◌, ◌^◌, false, length, take, drop, true, IfOk, OnOk}, IoError.{error_kind}};
 ghost use Rattle.title_disk.specs.Crashes.{Only};
 ghost use Rattle.title_disk.specs.declared.cabinet.OpenFault.TheVariants as fault;
-ghost use Rattle.title_file.specs.Files.{calls_of, file_seen, file_may_leave, file_has_failed, hold_of, shared_has_failed};
+ghost use Rattle.title_file.specs.Files.{calls_of, file_name, file_seen, file_may_leave, file_has_failed};
+ghost use Rattle.title_file.specs.Files.{hold_of, shared_has_failed, shared_name};
 ghost use Rattle.title_file.specs.Holds.{keeps_writers_off};
 ghost use Rattle.title_file.specs.Openings.{IsOpening, IsSecured, again_calls, gate_calls, loose_of, tail_calls};
 
@@ -57,12 +58,22 @@ impl Cabinet for Drawer {
 
     type Shared = SharedFile;
 
+    ghost name = { file_name };
+
+    ghost shared_name = { shared_name };
+
+    // What the system shows of a name, and what it refuses, isn't known here.
+    ghost shows = { λ path bytes. Unit {0} };
+
+    ghost refuses = { λ path why. Unit {0} };
+
     /// Before anything of a file is written again, what lies behind its blocks is put behind the bytes of the file whose name has
     /// `.cut` more, but for a closed gate alone. Where that fails, the file is opened all the same.
     fn open(&mut self, alloc: Global, path: &str) -> Result<PlantFile, OpenFault>
+        ensures named { IfOk result (λ file. file_name file ≡ path.now) }
         ensures durable { IfOk result (λ file. Only (file_seen file) (file_may_leave file)) }
         ensures works { IfOk result (λ file. file_has_failed file ≡ false) }
-        ensures kept { IfOk result (λ file. IsOpening (first_row_of self.old) (keeps_of self.new) (calls_of file)) }
+        ensures kept { IfOk result (λ file. IsOpening path.now (first_row_of self.old) (keeps_of self.new) (calls_of file)) }
     {
         match open(&self.rt, alloc, path, self.fresh) {
             Ok(opened) => {
@@ -78,6 +89,7 @@ impl Cabinet for Drawer {
 
     /// What is read is on the disk, but for what a sync that failed has left in doubt: only `open` writes that again.
     fn share(&mut self, alloc: Global, path: &str) -> Result<SharedFile, OpenFault>
+        ensures named { IfOk result (λ file. shared_name file ≡ path.now) }
         ensures works { IfOk result (λ file. shared_has_failed file ≡ false) }
         ensures held { IfOk result (λ file. keeps_writers_off (hold_of file) ≡ true) }
     {
@@ -123,9 +135,11 @@ fn fault_of(error: &io::Error) -> OpenFault
 }
 
 fn open(rt: &HostRuntime, alloc: Global, path: &str, fresh: &[u8]) -> io::Result<Opened>
+    ensures named { IfOk result (λ opened. file_name opened.file ≡ path.now) }
     ensures durable { IfOk result (λ opened. Only (file_seen opened.file) (file_may_leave opened.file)) }
     ensures works { IfOk result (λ opened. file_has_failed opened.file ≡ false) }
-    ensures kept { IfOk result (λ opened. IsOpening (take (length fresh.now - 1) fresh.now) opened.is_kept (calls_of opened.file)) }
+    ensures kept { IfOk result
+        (λ opened. IsOpening path.now (take (length fresh.now - 1) fresh.now) opened.is_kept (calls_of opened.file)) }
 {
     let file = match take(rt, path) {
         Err(error) if error.kind() == ErrorKind::NotFound => make(rt, alloc, path, fresh)?,
@@ -190,9 +204,10 @@ fn settle(
     mut file: File,
     head: &[u8],
 ) -> io::Result<Opened>
+    ensures named { IfOk result (λ opened. file_name opened.file ≡ path.now) }
     ensures durable { IfOk result (λ opened. Only (file_seen opened.file) (file_may_leave opened.file)) }
     ensures works { IfOk result (λ opened. file_has_failed opened.file ≡ false) }
-    ensures kept { IfOk result (λ opened. IsOpening head.now opened.is_kept (calls_of opened.file)) }
+    ensures kept { IfOk result (λ opened. IsOpening path.now head.now opened.is_kept (calls_of opened.file)) }
 {
     let canonical = canonical_path(rt, path, &file)?;
     let found = file.metadata()?;
@@ -202,7 +217,7 @@ fn settle(
     sync_folder(rt, canonical)?;
     let record = record.then(&Note::Synced(true));
     Ok(Opened {
-        file: PlantFile::opened(file, bytes, &record),
+        file: PlantFile::opened(file, path, bytes, &record),
         is_kept,
     })
 }
@@ -307,6 +322,7 @@ fn open_to_read(rt: &HostRuntime, path: &str, hold: Hold) -> io::Result<Held>
 
 // Shares a file, and reads it once it is on the disk.
 fn share(rt: &HostRuntime, alloc: Global, path: &str) -> io::Result<SharedFile>
+    ensures named { IfOk result (λ file. shared_name file ≡ path.now) }
     ensures works { IfOk result (λ file. shared_has_failed file ≡ false) }
 {
     let mut held = open_to_read(rt, path, Hold::Shared)?;
@@ -314,7 +330,7 @@ fn share(rt: &HostRuntime, alloc: Global, path: &str) -> io::Result<SharedFile>
     held.file.sync_all()?;
     sync_folder(rt, canonical)?;
     let bytes = read_all(alloc, &mut held.file)?;
-    Ok(SharedFile::new(held, bytes))
+    Ok(SharedFile::new(held, path, bytes))
 }
 
 fn look(rt: &HostRuntime, alloc: Global, path: &str) -> io::Result<Vec<u8>> {

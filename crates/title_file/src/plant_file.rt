@@ -27,14 +27,14 @@ impl PlantFile {
     ghost use Rattle.title_disk.specs.Crashes.{Only};
     ghost use Rattle.title_file.specs.{Calls.{opened}, Files.{calls_of, file_seen, file_may_leave, file_has_failed}};
 
-    /// A file that was read, and then synced, by these calls.
-    pub(crate) fn opened(file: File, bytes: Vec<u8>, earlier: &Record) -> PlantFile
-        ensures calls { calls_of result ≡ opened bytes.items ∷ earlier.now.calls }
+    /// The file of this name, which was read, and then synced, by these calls.
+    pub(crate) fn opened(file: File, path: &str, bytes: Vec<u8>, earlier: &Record) -> PlantFile
+        ensures calls { calls_of result ≡ opened path.now bytes.items ∷ earlier.now.calls }
         ensures bytes { file_seen result ≡ bytes.items }
         ensures durable { Only (file_seen result) (file_may_leave result) }
         ensures works { file_has_failed result ≡ false }
     {
-        let record = earlier.then(&Note::Opened(&bytes));
+        let record = earlier.then(&Note::Opened(path, &bytes));
         PlantFile {
             file,
             bytes: Some(bytes),

@@ -22,16 +22,17 @@ pub struct SharedFile {
 
 impl SharedFile {
     ghost use Rattle.std.specs.Prelude.{false};
-    ghost use Rattle.title_file.specs.Files.{shared_has_failed, shared_seen};
+    ghost use Rattle.title_file.specs.Files.{shared_has_failed, shared_name, shared_seen};
 
-    /// A file that is held so, with the bytes that were read of it.
-    pub(crate) fn new(held: Held, bytes: Vec<u8>) -> SharedFile
+    /// The file of this name, which is held so, with the bytes that were read of it.
+    pub(crate) fn new(held: Held, path: &str, bytes: Vec<u8>) -> SharedFile
         requires kept_off { keeps_writers_off held.hold ≡ true }
+        ensures named { shared_name result ≡ path.now }
         ensures bytes { shared_seen result ≡ bytes.items }
         ensures works { shared_has_failed result ≡ false }
     {
         let unread = Record::new();
-        let record = unread.then(&Note::Opened(&bytes));
+        let record = unread.then(&Note::Opened(path, &bytes));
         SharedFile {
             held,
             bytes: Some(bytes),

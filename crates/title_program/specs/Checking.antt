@@ -7,9 +7,10 @@ use Rattle.title_lasting.specs.declared.checking.TellFault.TheVariants as fault
 use Rattle.title_program.specs.{declared.status.Status.{Status, TheVariants.{Success, Failure}}, Faults.{of_open, of_telling}}
 use Rattle.title_program.specs.Printing.{TellsFault}
 
--- a file can't be looked at: its fault is told
-pub record IsUnseen (before after : Option (List ℕ)) (sink_failed : Bool) (status : Status) : Type 0 where
+-- a file was refused for a reason that it may be refused for: its fault is told
+pub record IsUnseen (refuses : OpenFault → Type 0) (before after : Option (List ℕ)) (sink_failed : Bool) (status : Status) : Type 0 where
   pub fault : OpenFault
+  pub refused : refuses fault
   pub told : TellsFault (of_open fault) before after sink_failed status
 
 -- what tells what stands in a file: its numbers, or a script
@@ -26,9 +27,11 @@ ChecksBy (Err fault.Write) before after then_failed sink_failed status =
     (after ≡ before) × (sink_failed ≡ then_failed) × (status ≡ Failure)
 ChecksBy (Err e) before after then_failed sink_failed status = TellsFault (of_telling e) before after sink_failed status
 
--- a file has these bytes, and what stands in it was told
-pub record IsSeen (as_script : Bool) (taken taken_after : Option (List ℕ)) (sink_failed : Bool) (status : Status) : Type 0 where
+-- a file may be read so, and what stands in these bytes was told
+pub record IsSeen (shows : List ℕ → Type 0) (as_script : Bool) (taken taken_after : Option (List ℕ)) (sink_failed : Bool) (status : Status)
+    : Type 0 where
   pub file : List ℕ
+  pub shown : shows file
   -- what the output had taken at the end of the telling, and which of file and output had failed
   pub written : Option (List ℕ)
   pub disk_failed : Bool

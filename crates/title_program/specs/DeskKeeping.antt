@@ -1,17 +1,16 @@
--- What serving rows at a desk on top of a plant's file leaves. A file is seen by its bytes, by what a crash may leave of it, and by what a
--- crash since an earlier moment might have left.
+-- What serving rows at a desk on top of a plant's file leaves. A file is seen by its name, by its bytes, by what a crash may leave of it,
+-- and by what a crash since an earlier moment might have left.
 use Rattle.std.specs.Prelude.{◌≡◌, ◌⊎◌, ℕ, List, Bool, Option, Result}
-use Rattle.title_disk.specs.Crashes.{LeavesOnly, Only}
+use Rattle.title_disk.specs.{Crashes.{LeavesOnly, Only}, declared.cabinet.OpenFault.{OpenFault}}
 use Rattle.title_lasting.specs.{declared.fault.LastingFault.{LastingFault}, Openings.{cut_in}}
 use Rattle.title_kept_desk.specs.Desks.{LastingDesk}
-use Rattle.title_program.specs.{declared.status.Status.{Status}, Keeping.{EndsBy, IsUnopened}}
+use Rattle.title_program.specs.{declared.status.Status.{Status}, Keeping.{EndsBy, IsOpenedAndServed, IsUnopened}}
 
 module _ {D : Type 0} (seen : D → List ℕ) (may_leave : D → List ℕ → Type 0) (moment : D → ℕ) (left_since : D → ℕ → List ℕ → Type 0)
     (has_failed : D → Bool) where
-  -- A file was opened, all of it on the disk, and the source's rows were served on top of what stood in it.
-  pub record IsSittingServed (left left_after taken taken_after : Option (List ℕ)) (source_failed sink_failed : Bool) (cut : ℕ)
+  -- A file that was opened had all of it on the disk, and the source's rows were served on top of what stood in it.
+  pub record IsSittingServed (old : D) (left left_after taken taken_after : Option (List ℕ)) (source_failed sink_failed : Bool) (cut : ℕ)
       (status : Status) : Type 0 where
-    pub old : D
     pub new : D
     pub opened : Only (seen old) (may_leave old)
     -- what the output had taken with the last answer, and whether it had failed
@@ -24,9 +23,10 @@ module _ {D : Type 0} (seen : D → List ℕ) (may_leave : D → List ℕ → Ty
     -- so many bytes at the end of the file didn't count and were cut off
     pub cut_off : (cut ≡ cut_in (seen old)) ⊎ (cut ≡ 0)
 
-  -- or the file wasn't opened
-  abbrev pub IsKeptDeskServed : (left left_after taken taken_after : Option (List ℕ)) → (source_failed sink_failed : Bool) → (cut : ℕ)
-      → Status → Type 0
-  IsKeptDeskServed left left_after taken taken_after source_failed sink_failed cut status =
-      IsUnopened left left_after taken taken_after sink_failed cut status
-      ⊎ IsSittingServed left left_after taken taken_after source_failed sink_failed cut status
+  -- so was the file of this name, or it was refused
+  abbrev pub IsKeptDeskServed : (name : D → List ℕ) → (refuses : List ℕ → OpenFault → Type 0) → (plant : List ℕ)
+      → (left left_after taken taken_after : Option (List ℕ)) → (source_failed sink_failed : Bool) → (cut : ℕ) → Status → Type 0
+  IsKeptDeskServed name refuses plant left left_after taken taken_after source_failed sink_failed cut status =
+      IsUnopened (refuses plant) left left_after taken taken_after sink_failed cut status
+      ⊎ IsOpenedAndServed name plant
+      (λ file. IsSittingServed file left left_after taken taken_after source_failed sink_failed cut status)

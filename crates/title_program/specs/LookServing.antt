@@ -1,17 +1,16 @@
--- What looks at a plant's file leave. A file is seen by its bytes, by what a crash may leave of it, and by what a crash since an earlier
--- moment might have left.
+-- What looks at a plant's file leave. A file is seen by its name, by its bytes, by what a crash may leave of it, and by what a crash since
+-- an earlier moment might have left.
 use Rattle.std.specs.Prelude.{◌≡◌, ◌⊎◌, ℕ, List, Bool, Option, Result}
-use Rattle.title_disk.specs.Crashes.{LeavesOnly}
+use Rattle.title_disk.specs.{Crashes.{LeavesOnly}, declared.cabinet.OpenFault.{OpenFault}}
 use Rattle.title_lasting.specs.{declared.fault.LastingFault.{LastingFault}, Looks.{Looking}}
 use Rattle.title_kept_desk.specs.LookDesks.{LookingDesk}
-use Rattle.title_program.specs.{declared.status.Status.{Status}, Keeping.{EndsBy, IsUnopened}}
+use Rattle.title_program.specs.{declared.status.Status.{Status}, Keeping.{EndsBy, IsOpenedAndServed, IsUnopened}}
 
 module _ {D : Type 0} (seen : D → List ℕ) (may_leave : D → List ℕ → Type 0) (moment : D → ℕ) (left_since : D → ℕ → List ℕ → Type 0)
     (has_failed : D → Bool) where
   -- A file was shared, and the source's script was served on top of what stood in it.
-  pub record IsLookTaken (after : Option ℕ) (left left_after : Option (List ℕ)) (turns turns_after : ℕ)
+  pub record IsLookTaken (old : D) (after : Option ℕ) (left left_after : Option (List ℕ)) (turns turns_after : ℕ)
       (taken taken_after : Option (List ℕ)) (source_failed sink_failed : Bool) (cut : ℕ) (status : Status) : Type 0 where
-    pub old : D
     pub new : D
     -- what the output had taken at the end of the look, and whether it had failed
     pub written : Option (List ℕ)
@@ -22,17 +21,18 @@ module _ {D : Type 0} (seen : D → List ℕ) (may_leave : D → List ℕ → Ty
     pub told : EndsBy outcome written taken_after then_failed sink_failed status
     pub uncut : cut ≡ 0
 
-  -- or the file wasn't opened
-  abbrev pub IsLookServed : (after : Option ℕ) → (left left_after : Option (List ℕ)) → (turns turns_after : ℕ)
-      → (taken taken_after : Option (List ℕ)) → (source_failed sink_failed : Bool) → (cut : ℕ) → Status → Type 0
-  IsLookServed after left left_after turns turns_after taken taken_after source_failed sink_failed cut status =
-      IsUnopened left left_after taken taken_after sink_failed cut status
-      ⊎ IsLookTaken after left left_after turns turns_after taken taken_after source_failed sink_failed cut status
+  -- so was the file of this name, or it was refused
+  abbrev pub IsLookServed : (name : D → List ℕ) → (refuses : List ℕ → OpenFault → Type 0) → (plant : List ℕ) → (after : Option ℕ)
+      → (left left_after : Option (List ℕ)) → (turns turns_after : ℕ) → (taken taken_after : Option (List ℕ))
+      → (source_failed sink_failed : Bool) → (cut : ℕ) → Status → Type 0
+  IsLookServed name refuses plant after left left_after turns turns_after taken taken_after source_failed sink_failed cut status =
+      IsUnopened (refuses plant) left left_after taken taken_after sink_failed cut status
+      ⊎ IsOpenedAndServed name plant
+      (λ file. IsLookTaken file after left left_after turns turns_after taken taken_after source_failed sink_failed cut status)
 
   -- A file was shared, and the source's rows were answered as looks on top of what stood in it.
-  pub record IsLookSat (left left_after taken taken_after : Option (List ℕ)) (source_failed sink_failed : Bool) (cut : ℕ)
+  pub record IsLookSat (old : D) (left left_after taken taken_after : Option (List ℕ)) (source_failed sink_failed : Bool) (cut : ℕ)
       (status : Status) : Type 0 where
-    pub old : D
     pub new : D
     pub written : Option (List ℕ)
     pub then_failed : Bool
@@ -42,9 +42,10 @@ module _ {D : Type 0} (seen : D → List ℕ) (may_leave : D → List ℕ → Ty
     pub told : EndsBy outcome written taken_after then_failed sink_failed status
     pub uncut : cut ≡ 0
 
-  -- or the file wasn't opened
-  abbrev pub IsLookDeskServed : (left left_after taken taken_after : Option (List ℕ)) → (source_failed sink_failed : Bool) → (cut : ℕ)
-      → Status → Type 0
-  IsLookDeskServed left left_after taken taken_after source_failed sink_failed cut status =
-      IsUnopened left left_after taken taken_after sink_failed cut status
-      ⊎ IsLookSat left left_after taken taken_after source_failed sink_failed cut status
+  -- so was the file of this name, or it was refused
+  abbrev pub IsLookDeskServed : (name : D → List ℕ) → (refuses : List ℕ → OpenFault → Type 0) → (plant : List ℕ)
+      → (left left_after taken taken_after : Option (List ℕ)) → (source_failed sink_failed : Bool) → (cut : ℕ) → Status → Type 0
+  IsLookDeskServed name refuses plant left left_after taken taken_after source_failed sink_failed cut status =
+      IsUnopened (refuses plant) left left_after taken taken_after sink_failed cut status
+      ⊎ IsOpenedAndServed name plant
+      (λ file. IsLookSat file left left_after taken taken_after source_failed sink_failed cut status)

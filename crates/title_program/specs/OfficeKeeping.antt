@@ -1,12 +1,12 @@
--- What serving the script of an office on top of a plant's file leaves. A file is seen by its bytes, by what a crash may leave of it, and
--- by what a crash since an earlier moment might have left.
+-- What serving the script of an office on top of a plant's file leaves. A file is seen by its name, by its bytes, by what a crash may
+-- leave of it, and by what a crash since an earlier moment might have left.
 use Rattle.std.specs.Prelude.{◌≡◌, ◌⊎◌, ℕ, List, Bool, Option, Result, Ok, Err}
-use Rattle.title_disk.specs.Crashes.{LeavesOnly, Only}
+use Rattle.title_disk.specs.{Crashes.{LeavesOnly, Only}, declared.cabinet.OpenFault.{OpenFault}}
 use Rattle.title_kept_office.specs.{declared.fault.KeptOfficeFault.{KeptOfficeFault}, OfficeLastings.{LastingOffice}}
 use Rattle.title_kept_office.specs.declared.fault.KeptOfficeFault.TheVariants as kept
 use Rattle.title_lasting.specs.Openings.{cut_in}
 use Rattle.title_program.specs.{declared.status.Status.{Status, TheVariants.{Success}}, Faults.{of_unsettled, of_worker}}
-use Rattle.title_program.specs.{Keeping.{EndsBy, IsUnopened}, Printing.{TellsFault}}
+use Rattle.title_program.specs.{Keeping.{EndsBy, IsOpenedAndServed, IsUnopened}, Printing.{TellsFault}}
 
 -- the fault is told by its line behind what the run left, as that of any script on top of a file is
 abbrev pub FailsBy : KeptOfficeFault → (before after : Option (List ℕ)) → (then_failed sink_failed : Bool) → Status → Type 0
@@ -24,10 +24,9 @@ OfficeEndsBy (Err e) before after then_failed sink_failed status = FailsBy e bef
 
 module _ {D : Type 0} (seen : D → List ℕ) (may_leave : D → List ℕ → Type 0) (moment : D → ℕ) (left_since : D → ℕ → List ℕ → Type 0)
     (has_failed : D → Bool) where
-  -- A file was opened, all of it on the disk, and the source's script was served by an office on top of what stood in it.
-  pub record IsOfficeDayServed (examiners : ℕ) (after : Option ℕ) (left left_after : Option (List ℕ)) (turns turns_after : ℕ)
+  -- A file that was opened had all of it on the disk, and the source's script was served by an office on top of what stood in it.
+  pub record IsOfficeDayServed (old : D) (examiners : ℕ) (after : Option ℕ) (left left_after : Option (List ℕ)) (turns turns_after : ℕ)
       (taken taken_after : Option (List ℕ)) (source_failed sink_failed : Bool) (cut : ℕ) (status : Status) : Type 0 where
-    pub old : D
     pub new : D
     pub opened : Only (seen old) (may_leave old)
     -- what the output had taken at the end of the run, and whether it had failed
@@ -40,9 +39,12 @@ module _ {D : Type 0} (seen : D → List ℕ) (may_leave : D → List ℕ → Ty
     -- so many bytes at the end of the file didn't count and were cut off
     pub cut_off : (cut ≡ cut_in (seen old)) ⊎ (cut ≡ 0)
 
-  -- or the file wasn't opened
-  abbrev pub IsKeptOfficeServed : (examiners : ℕ) → (after : Option ℕ) → (left left_after : Option (List ℕ)) → (turns turns_after : ℕ)
-      → (taken taken_after : Option (List ℕ)) → (source_failed sink_failed : Bool) → (cut : ℕ) → Status → Type 0
-  IsKeptOfficeServed examiners after left left_after turns turns_after taken taken_after source_failed sink_failed cut status =
-      IsUnopened left left_after taken taken_after sink_failed cut status
-      ⊎ IsOfficeDayServed examiners after left left_after turns turns_after taken taken_after source_failed sink_failed cut status
+  -- so was the file of this name, or it was refused
+  abbrev pub IsKeptOfficeServed : (name : D → List ℕ) → (refuses : List ℕ → OpenFault → Type 0) → (plant : List ℕ) → (examiners : ℕ)
+      → (after : Option ℕ) → (left left_after : Option (List ℕ)) → (turns turns_after : ℕ) → (taken taken_after : Option (List ℕ))
+      → (source_failed sink_failed : Bool) → (cut : ℕ) → Status → Type 0
+  IsKeptOfficeServed name refuses plant examiners after left left_after turns turns_after taken taken_after source_failed sink_failed cut
+      status =
+      IsUnopened (refuses plant) left left_after taken taken_after sink_failed cut status
+      ⊎ IsOpenedAndServed name plant (λ file. IsOfficeDayServed file examiners after left left_after turns turns_after taken taken_after
+      source_failed sink_failed cut status)

@@ -61,8 +61,8 @@ pub fn check<K: Cabinet, W: Sink>(
     sink: &mut W,
 ) -> Ending
     requires sink_works { W.has_failed sink.old ≡ false }
-    ensures seen { IsUnseen (W.taken sink.old) (W.taken sink.new) (W.has_failed sink.new) result.status
-        ⊎ IsSeen as_script (W.taken sink.old) (W.taken sink.new) (W.has_failed sink.new) result.status }
+    ensures seen { IsUnseen (K.refuses file.now) (W.taken sink.old) (W.taken sink.new) (W.has_failed sink.new) result.status
+        ⊎ IsSeen (K.shows file.now) as_script (W.taken sink.old) (W.taken sink.new) (W.has_failed sink.new) result.status }
     ensures quiet { IsQuiet result }
     ensures uncut { result.cut ≡ 0 }
 {

@@ -180,8 +180,9 @@ fn carry_out_onto<T: Threads + Wait + Sync, R: Source, W: Sink, V: Watch, K: Cab
     requires ranges { IsInRange line }
     requires source_works { R.has_failed source.old ≡ false }
     requires sink_works { W.has_failed sink.old ≡ false }
-    ensures obeyed { IsObeyedOnto K.File.seen K.File.may_leave K.File.moment K.File.left_since K.File.has_failed
-        K.Shared.seen K.Shared.may_leave K.Shared.moment K.Shared.left_since K.Shared.has_failed line.entry
+    ensures obeyed { IsObeyedOnto K.File.seen K.File.may_leave K.File.moment K.File.left_since K.File.has_failed K.name
+        K.Shared.seen K.Shared.may_leave K.Shared.moment K.Shared.left_since K.Shared.has_failed K.shared_name
+        K.refuses K.shows line.entry
         (R.left source.old) (R.left source.new) (R.turns source.old) (R.turns source.new) (W.taken sink.old) (W.taken sink.new)
         (R.has_failed source.new) (W.has_failed sink.new) result.cut result.status }
     ensures turns { TurnsFor line.entry (R.turns source.old) (R.turns source.new) }
@@ -226,8 +227,9 @@ pub fn obey_onto<T: Threads + Wait + Sync, R: Source, W: Sink, E: Sink, V: Watch
     requires ranges { IsInRange line }
     requires source_works { R.has_failed source.old ≡ false }
     requires sink_works { W.has_failed sink.old ≡ false }
-    ensures obeyed { IsObeyedOnto K.File.seen K.File.may_leave K.File.moment K.File.left_since K.File.has_failed
-        K.Shared.seen K.Shared.may_leave K.Shared.moment K.Shared.left_since K.Shared.has_failed line.entry
+    ensures obeyed { IsObeyedOnto K.File.seen K.File.may_leave K.File.moment K.File.left_since K.File.has_failed K.name
+        K.Shared.seen K.Shared.may_leave K.Shared.moment K.Shared.left_since K.Shared.has_failed K.shared_name
+        K.refuses K.shows line.entry
         (R.left source.old) (R.left source.new) (R.turns source.old) (R.turns source.new) (W.taken sink.old) (W.taken sink.new)
         (R.has_failed source.new) (W.has_failed sink.new) result.cut result.status }
     ensures turns { TurnsFor line.entry (R.turns source.old) (R.turns source.new) }
@@ -254,8 +256,9 @@ pub fn obey_words_onto<T: Threads + Wait + Sync, R: Source, W: Sink, E: Sink, V:
     requires source_works { R.has_failed source.old ≡ false }
     requires sink_works { W.has_failed sink.old ≡ false }
     ensures answered { (asked : Result Line LineFault) × IsAsked (map string_bytes words.now) asked
-        × IsAnsweredOnto K.File.seen K.File.may_leave K.File.moment K.File.left_since K.File.has_failed
-        K.Shared.seen K.Shared.may_leave K.Shared.moment K.Shared.left_since K.Shared.has_failed asked
+        × IsAnsweredOnto K.File.seen K.File.may_leave K.File.moment K.File.left_since K.File.has_failed K.name
+        K.Shared.seen K.Shared.may_leave K.Shared.moment K.Shared.left_since K.Shared.has_failed K.shared_name
+        K.refuses K.shows asked
         (R.left source.old) (R.left source.new) (R.turns source.old) (R.turns source.new) (W.taken sink.old) (W.taken sink.new)
         (R.has_failed source.new) (W.has_failed sink.new) result.cut result.status
         × Turns asked (R.turns source.old) (R.turns source.new)

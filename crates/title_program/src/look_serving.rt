@@ -27,8 +27,8 @@ fn take_look<D: Disk, R: Source, W: Sink, V: Watch>(
     requires file_works { D.has_failed file.old ≡ false }
     requires source_works { R.has_failed source.old ≡ false }
     requires sink_works { W.has_failed sink.old ≡ false }
-    ensures served { IsLookTaken D.seen D.may_leave D.moment D.left_since D.has_failed after (R.left source.old) (R.left source.new)
-        (R.turns source.old) (R.turns source.new) (W.taken sink.old) (W.taken sink.new) (R.has_failed source.new)
+    ensures served { IsLookTaken D.seen D.may_leave D.moment D.left_since D.has_failed file.old after (R.left source.old)
+        (R.left source.new) (R.turns source.old) (R.turns source.new) (W.taken sink.old) (W.taken sink.new) (R.has_failed source.new)
         (W.has_failed sink.new) result.cut result.status }
     ensures all { result.status ≡ status.Success → IsAtEnd (R.left source.new) }
     ensures quiet { IsQuiet result }
@@ -63,8 +63,8 @@ pub fn serve_look<K: Cabinet, R: Source, W: Sink, V: Watch>(
 ) -> Ending
     requires source_works { R.has_failed source.old ≡ false }
     requires sink_works { W.has_failed sink.old ≡ false }
-    ensures served { IsLookServed K.Shared.seen K.Shared.may_leave K.Shared.moment K.Shared.left_since K.Shared.has_failed after
-        (R.left source.old) (R.left source.new) (R.turns source.old) (R.turns source.new) (W.taken sink.old) (W.taken sink.new)
+    ensures served { IsLookServed K.Shared.seen K.Shared.may_leave K.Shared.moment K.Shared.left_since K.Shared.has_failed
+        K.shared_name K.refuses plant.now after (R.left source.old) (R.left source.new) (R.turns source.old) (R.turns source.new) (W.taken sink.old) (W.taken sink.new)
         (R.has_failed source.new) (W.has_failed sink.new) result.cut result.status }
     ensures all { result.status ≡ status.Success → IsAtEnd (R.left source.new) }
     ensures quiet { IsQuiet result }
@@ -87,8 +87,8 @@ fn sit_looking<D: Disk, R: Source, W: Sink>(
     requires file_works { D.has_failed file.old ≡ false }
     requires source_works { R.has_failed source.old ≡ false }
     requires sink_works { W.has_failed sink.old ≡ false }
-    ensures served { IsLookSat D.seen D.may_leave D.moment D.left_since D.has_failed (R.left source.old) (R.left source.new)
-        (W.taken sink.old) (W.taken sink.new) (R.has_failed source.new) (W.has_failed sink.new) result.cut result.status }
+    ensures served { IsLookSat D.seen D.may_leave D.moment D.left_since D.has_failed file.old (R.left source.old)
+        (R.left source.new) (W.taken sink.old) (W.taken sink.new) (R.has_failed source.new) (W.has_failed sink.new) result.cut result.status }
     ensures all { result.status ≡ status.Success → IsAtEnd (R.left source.new) }
     ensures quiet { IsQuiet result }
 {
@@ -120,7 +120,7 @@ pub fn serve_look_desk<K: Cabinet, R: Source, W: Sink>(
     requires source_works { R.has_failed source.old ≡ false }
     requires sink_works { W.has_failed sink.old ≡ false }
     ensures served { IsLookDeskServed K.Shared.seen K.Shared.may_leave K.Shared.moment K.Shared.left_since K.Shared.has_failed
-        (R.left source.old) (R.left source.new) (W.taken sink.old) (W.taken sink.new) (R.has_failed source.new) (W.has_failed sink.new)
+        K.shared_name K.refuses plant.now (R.left source.old) (R.left source.new) (W.taken sink.old) (W.taken sink.new) (R.has_failed source.new) (W.has_failed sink.new)
         result.cut result.status }
     ensures all { result.status ≡ status.Success → IsAtEnd (R.left source.new) }
     ensures quiet { IsQuiet result }

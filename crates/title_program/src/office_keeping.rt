@@ -47,7 +47,7 @@ fn serve_office_day<T: Threads + Wait + Sync, D: Disk, R: Source, W: Sink>(
     requires durable { Only (D.seen file.old) (D.may_leave file.old) }
     requires source_works { R.has_failed source.old ≡ false }
     requires sink_works { W.has_failed sink.old ≡ false }
-    ensures served { IsOfficeDayServed D.seen D.may_leave D.moment D.left_since D.has_failed examiners after
+    ensures served { IsOfficeDayServed D.seen D.may_leave D.moment D.left_since D.has_failed file.old examiners after
         (R.left source.old) (R.left source.new) (R.turns source.old) (R.turns source.new) (W.taken sink.old) (W.taken sink.new)
         (R.has_failed source.new) (W.has_failed sink.new) result.cut result.status }
     ensures all { result.status ≡ status.Success → IsAtEnd (R.left source.new) }
@@ -87,8 +87,8 @@ pub fn serve_kept_office<T: Threads + Wait + Sync, K: Cabinet, R: Source, W: Sin
     requires seats { examiners ≤ most_seats }
     requires source_works { R.has_failed source.old ≡ false }
     requires sink_works { W.has_failed sink.old ≡ false }
-    ensures served { IsKeptOfficeServed K.File.seen K.File.may_leave K.File.moment K.File.left_since K.File.has_failed examiners after
-        (R.left source.old) (R.left source.new) (R.turns source.old) (R.turns source.new) (W.taken sink.old) (W.taken sink.new)
+    ensures served { IsKeptOfficeServed K.File.seen K.File.may_leave K.File.moment K.File.left_since K.File.has_failed K.name
+        K.refuses plant.now examiners after (R.left source.old) (R.left source.new) (R.turns source.old) (R.turns source.new) (W.taken sink.old) (W.taken sink.new)
         (R.has_failed source.new) (W.has_failed sink.new) result.cut result.status }
     ensures all { result.status ≡ status.Success → IsAtEnd (R.left source.new) }
     ensures quiet { IsQuiet result }

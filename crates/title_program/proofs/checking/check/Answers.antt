@@ -11,6 +11,7 @@ returns-in-Ok-tell_bytes-clause-seen g c =
     let failed = g.W.Sink.has_failed c.tell_bytes.new.sink in
     inr (record {
       file = c.in-Ok.bytes.items;
+      shown = c.in-Ok.ensures.shown;
       written = taken;
       disk_failed = told.0;
       then_failed = failed;
@@ -33,6 +34,7 @@ returns-in-Err-tell_bytes-clause-seen g c =
     c.tell_untold.ensures.told c.tell_untold.ensures.status in
     inr (record {
       file = c.in-Ok.bytes.items;
+      shown = c.in-Ok.ensures.shown;
       written = written;
       disk_failed = told.0;
       then_failed = then_failed;
