@@ -1,6 +1,7 @@
 -- What a plant's file shows of itself.
 use Rattle.std.specs.Prelude.{ℕ, ◌-◌, Bool, List, length, take}
-use Rattle.title_file.specs.{Calls.{Call, seen, name_of, MayLeave, LeftSince, has_failed}, declared.{drawer.Drawer.{Drawer}, holding.Hold.{Hold}}}
+use Rattle.title_file.specs.{Calls.{Call, seen, name_of, MayLeave, LeftSince, has_failed}, declared.drawer.Drawer.{Drawer}}
+use Rattle.title_file.specs.declared.holding.Hold.{Hold}
 use Rattle.title_file.specs.declared.{plant_file.PlantFile.{PlantFile}, shared_file.SharedFile.{SharedFile}}
 
 -- the calls on it, the newest first

@@ -25,7 +25,8 @@ fn serve_sitting<D: Disk, R: Source, W: Sink>(
     requires source_works { R.has_failed source.old ≡ false }
     requires sink_works { W.has_failed sink.old ≡ false }
     ensures served { IsSittingServed D.seen D.may_leave D.moment D.left_since D.has_failed file.old (R.left source.old)
-        (R.left source.new) (W.taken sink.old) (W.taken sink.new) (R.has_failed source.new) (W.has_failed sink.new) result.cut result.status }
+        (R.left source.new) (W.taken sink.old) (W.taken sink.new) (R.has_failed source.new) (W.has_failed sink.new)
+        result.cut result.status }
     ensures all { result.status ≡ status.Success → IsAtEnd (R.left source.new) }
     ensures quiet { IsQuiet result }
 {
@@ -58,8 +59,8 @@ pub fn serve_kept_desk<K: Cabinet, R: Source, W: Sink>(
     requires source_works { R.has_failed source.old ≡ false }
     requires sink_works { W.has_failed sink.old ≡ false }
     ensures served { IsKeptDeskServed K.File.seen K.File.may_leave K.File.moment K.File.left_since K.File.has_failed K.name K.refuses
-        plant.now (R.left source.old) (R.left source.new) (W.taken sink.old) (W.taken sink.new) (R.has_failed source.new) (W.has_failed sink.new)
-        result.cut result.status }
+        plant.now (R.left source.old) (R.left source.new) (W.taken sink.old) (W.taken sink.new) (R.has_failed source.new)
+        (W.has_failed sink.new) result.cut result.status }
     ensures all { result.status ≡ status.Success → IsAtEnd (R.left source.new) }
     ensures quiet { IsQuiet result }
 {

@@ -96,8 +96,8 @@ pub fn serve_kept<K: Cabinet, R: Source, W: Sink, V: Watch>(
     requires source_works { R.has_failed source.old ≡ false }
     requires sink_works { W.has_failed sink.old ≡ false }
     ensures served { IsKeptServed K.File.seen K.File.may_leave K.File.moment K.File.left_since K.File.has_failed K.name K.refuses
-        plant.now schedule after (R.left source.old) (R.left source.new) (R.turns source.old) (R.turns source.new) (W.taken sink.old) (W.taken sink.new)
-        (R.has_failed source.new) (W.has_failed sink.new) result.cut result.status }
+        plant.now schedule after (R.left source.old) (R.left source.new) (R.turns source.old) (R.turns source.new)
+        (W.taken sink.old) (W.taken sink.new) (R.has_failed source.new) (W.has_failed sink.new) result.cut result.status }
     ensures all { result.status ≡ status.Success → IsAtEnd (R.left source.new) }
     ensures quiet { IsQuiet result }
     ensures turns { IsReadWithin (R.turns source.old) (R.turns source.new) }

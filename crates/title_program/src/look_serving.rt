@@ -64,8 +64,8 @@ pub fn serve_look<K: Cabinet, R: Source, W: Sink, V: Watch>(
     requires source_works { R.has_failed source.old ≡ false }
     requires sink_works { W.has_failed sink.old ≡ false }
     ensures served { IsLookServed K.Shared.seen K.Shared.may_leave K.Shared.moment K.Shared.left_since K.Shared.has_failed
-        K.shared_name K.refuses plant.now after (R.left source.old) (R.left source.new) (R.turns source.old) (R.turns source.new) (W.taken sink.old) (W.taken sink.new)
-        (R.has_failed source.new) (W.has_failed sink.new) result.cut result.status }
+        K.shared_name K.refuses plant.now after (R.left source.old) (R.left source.new) (R.turns source.old) (R.turns source.new)
+        (W.taken sink.old) (W.taken sink.new) (R.has_failed source.new) (W.has_failed sink.new) result.cut result.status }
     ensures all { result.status ≡ status.Success → IsAtEnd (R.left source.new) }
     ensures quiet { IsQuiet result }
     ensures turns { IsReadWithin (R.turns source.old) (R.turns source.new) }
@@ -88,7 +88,8 @@ fn sit_looking<D: Disk, R: Source, W: Sink>(
     requires source_works { R.has_failed source.old ≡ false }
     requires sink_works { W.has_failed sink.old ≡ false }
     ensures served { IsLookSat D.seen D.may_leave D.moment D.left_since D.has_failed file.old (R.left source.old)
-        (R.left source.new) (W.taken sink.old) (W.taken sink.new) (R.has_failed source.new) (W.has_failed sink.new) result.cut result.status }
+        (R.left source.new) (W.taken sink.old) (W.taken sink.new) (R.has_failed source.new) (W.has_failed sink.new)
+        result.cut result.status }
     ensures all { result.status ≡ status.Success → IsAtEnd (R.left source.new) }
     ensures quiet { IsQuiet result }
 {
@@ -120,8 +121,8 @@ pub fn serve_look_desk<K: Cabinet, R: Source, W: Sink>(
     requires source_works { R.has_failed source.old ≡ false }
     requires sink_works { W.has_failed sink.old ≡ false }
     ensures served { IsLookDeskServed K.Shared.seen K.Shared.may_leave K.Shared.moment K.Shared.left_since K.Shared.has_failed
-        K.shared_name K.refuses plant.now (R.left source.old) (R.left source.new) (W.taken sink.old) (W.taken sink.new) (R.has_failed source.new) (W.has_failed sink.new)
-        result.cut result.status }
+        K.shared_name K.refuses plant.now (R.left source.old) (R.left source.new) (W.taken sink.old) (W.taken sink.new)
+        (R.has_failed source.new) (W.has_failed sink.new) result.cut result.status }
     ensures all { result.status ≡ status.Success → IsAtEnd (R.left source.new) }
     ensures quiet { IsQuiet result }
 {

@@ -88,8 +88,8 @@ pub fn serve_kept_office<T: Threads + Wait + Sync, K: Cabinet, R: Source, W: Sin
     requires source_works { R.has_failed source.old ≡ false }
     requires sink_works { W.has_failed sink.old ≡ false }
     ensures served { IsKeptOfficeServed K.File.seen K.File.may_leave K.File.moment K.File.left_since K.File.has_failed K.name
-        K.refuses plant.now examiners after (R.left source.old) (R.left source.new) (R.turns source.old) (R.turns source.new) (W.taken sink.old) (W.taken sink.new)
-        (R.has_failed source.new) (W.has_failed sink.new) result.cut result.status }
+        K.refuses plant.now examiners after (R.left source.old) (R.left source.new) (R.turns source.old) (R.turns source.new)
+        (W.taken sink.old) (W.taken sink.new) (R.has_failed source.new) (W.has_failed sink.new) result.cut result.status }
     ensures all { result.status ≡ status.Success → IsAtEnd (R.left source.new) }
     ensures quiet { IsQuiet result }
     ensures turns { IsReadWithin (R.turns source.old) (R.turns source.new) }
