@@ -1,6 +1,6 @@
 //! Where plants' files are kept.
 
-ghost use Rattle.std.specs.Prelude.{◌≡◌, ℕ, List, false, IfErr, IfOk};
+ghost use Rattle.std.specs.Prelude.{◌≡◌, ◌∷◌, ℕ, List, false, IfErr, IfOk};
 ghost use Rattle.title_disk.specs.{Crashes.{Only}, declared.cabinet.OpenFault.{OpenFault}};
 
 use crate::disk::Disk;
@@ -28,6 +28,9 @@ pub trait Cabinet {
     /// A file that is open for reading alone: as long as it is, nobody has it open for writing.
     type Shared: Disk + Drop;
 
+    // The names that were asked for, the newest first.
+    ghost asked: { Self → List (List ℕ) };
+
     // The name by which a file was opened.
     ghost name: { Self.File → List ℕ };
 
@@ -42,6 +45,7 @@ pub trait Cabinet {
 
     /// Opens the file of this name for reading and writing; all of it is on the disk then.
     fn open(&mut self, alloc: Global, path: &str) -> Result<Self::File, OpenFault>
+        ensures asked { asked self.new ≡ path.now ∷ asked self.old }
         ensures named { IfOk result (λ file. name file ≡ path.now) }
         ensures refused { IfErr result (refuses path.now) }
         ensures durable { IfOk result (λ file. Only (Self.File.seen file) (Self.File.may_leave file)) }
@@ -50,12 +54,14 @@ pub trait Cabinet {
     /// Opens the file of this name, which is there, for reading alone, beside others who read it. `InUse` where another has it open for
     /// writing. Nothing is written to it.
     fn share(&mut self, alloc: Global, path: &str) -> Result<Self::Shared, OpenFault>
+        ensures asked { asked self.new ≡ path.now ∷ asked self.old }
         ensures named { IfOk result (λ file. shared_name file ≡ path.now) }
         ensures refused { IfErr result (refuses path.now) }
         ensures works { IfOk result (λ file. Self.Shared.has_failed file ≡ false) };
 
     /// The bytes of the file of this name, which another may have open.
     fn look(&mut self, alloc: Global, path: &str) -> Result<Vec<u8>, OpenFault>
+        ensures asked { asked self.new ≡ path.now ∷ asked self.old }
         ensures shown { IfOk result (λ bytes. shows path.now bytes.items) }
         ensures refused { IfErr result (refuses path.now) };
 }

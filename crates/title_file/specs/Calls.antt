@@ -4,6 +4,8 @@ use Rattle.title_disk.specs.Crashes.{Torn, Cut}
 
 -- a call, and whether the system has answered that it is done
 pub data Call : Type 0 where
+  -- the file of this name was asked for
+  asked : List ℕ → Call
   -- the file of this name had these bytes, all of them on the disk
   opened : List ℕ → List ℕ → Call
   -- these bytes, at this offset
@@ -18,6 +20,7 @@ pub data Call : Type 0 where
 
 -- What a read returns after a call. After one that isn't done nobody reads.
 abbrev pub after : Call → List ℕ → List ℕ
+after (asked path) old = old
 after (opened path bytes) old = bytes
 after (written at bytes true) old = take at old ++ bytes ++ drop (at + length bytes) old
 after (written at bytes false) old = old
@@ -38,8 +41,15 @@ name_of [] = []
 name_of (opened path bytes ∷ earlier) = path
 name_of (call ∷ earlier) = name_of earlier
 
+-- the names that were asked for, the newest first
+abbrev pub names_of : List Call → List (List ℕ)
+names_of [] = []
+names_of (asked path ∷ earlier) = path ∷ names_of earlier
+names_of (call ∷ earlier) = names_of earlier
+
 -- what a call may make of a content until the next sync, whether it is done or not
 abbrev pub Leaves : Call → List ℕ → List ℕ → Type 0
+Leaves (asked path) old new = new ≡ old
 Leaves (opened path bytes) old new = ⊥
 Leaves (written at bytes done) old new = Torn at (length bytes) old new
 Leaves (cut len done) old new = Cut len old new
@@ -62,6 +72,7 @@ LeftSince (call ∷ earlier) number content =
 
 -- whether a call isn't done
 abbrev pub fails : Call → Bool
+fails (asked path) = false
 fails (opened path bytes) = false
 fails (written at bytes done) = not done
 fails (cut len done) = not done

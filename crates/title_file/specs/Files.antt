@@ -1,6 +1,6 @@
 -- What a plant's file shows of itself.
 use Rattle.std.specs.Prelude.{ℕ, ◌-◌, Bool, List, length, take}
-use Rattle.title_file.specs.{Calls.{Call, seen, name_of, MayLeave, LeftSince, has_failed}, declared.drawer.Drawer.{Drawer}}
+use Rattle.title_file.specs.{Calls.{Call, seen, name_of, names_of, MayLeave, LeftSince, has_failed}, declared.drawer.Drawer.{Drawer}}
 use Rattle.title_file.specs.declared.holding.Hold.{Hold}
 use Rattle.title_file.specs.declared.{plant_file.PlantFile.{PlantFile}, shared_file.SharedFile.{SharedFile}}
 
@@ -51,6 +51,10 @@ hold_of file = file.held.hold
 -- the first row of new files, with its line feed
 abbrev pub first_row_of : Drawer → List ℕ
 first_row_of drawer = take (length drawer.fresh.now - 1) drawer.fresh.now
+
+-- the names that it was asked for, the newest first
+abbrev pub asked_of : Drawer → List (List ℕ)
+asked_of drawer = names_of drawer.record.calls
 
 -- whether the file that was opened last had bytes that are kept beside
 abbrev pub keeps_of : Drawer → Bool

@@ -1,8 +1,9 @@
 -- What a note says.
-use Rattle.title_file.specs.{Calls.{Call, opened, written, cut, synced, kept, unread}, declared.record.Note.{Note}}
+use Rattle.title_file.specs.{Calls.{Call, asked, opened, written, cut, synced, kept, unread}, declared.record.Note.{Note}}
 use Rattle.title_file.specs.declared.record.Note.TheVariants as note
 
 abbrev pub call_of : Note → Call
+call_of (note.Asked path) = asked path.now
 call_of (note.Opened path bytes) = opened path.now bytes.now
 call_of (note.Written at bytes done) = written at bytes.now done
 call_of (note.Cut len done) = cut len done

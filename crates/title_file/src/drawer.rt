@@ -1,6 +1,6 @@
 //! Where plants' files lie: the file system.
 
-ghost use Rattle.std.specs.{Prelude.{◌≡◌, ◌≤◌, ◌<◌, ◌-◌, ◌^◌, false, length, take, drop, true, IfOk, OnOk}, IoError.{error_kind}};
+ghost use Rattle.std.specs.{Prelude.{◌≡◌, ◌∷◌, ◌≤◌, ◌<◌, ◌-◌, ◌^◌, false, length, take, drop, true, IfOk, OnOk}, IoError.{error_kind}};
 ghost use Rattle.title_disk.specs.Crashes.{Only};
 ghost use Rattle.title_disk.specs.declared.cabinet.OpenFault.TheVariants as fault;
 ghost use Rattle.title_file.specs.Files.{calls_of, file_name, file_seen, file_may_leave, file_has_failed};
@@ -24,11 +24,12 @@ use title_disk::{Cabinet, OpenFault};
 
 /// The file system as a cabinet. A file that isn't there is made where it is to be written; one handle has it open for writing, or else
 /// any number of them share it.
-#[derive(Clone, Copy)]
+#[derive(Drop)]
 pub struct Drawer {
     rt: HostRuntime,
     fresh: &'static [u8],
     has_kept: bool,
+    record: Record,
 }
 
 impl Drawer {
@@ -40,6 +41,7 @@ impl Drawer {
             rt: *rt,
             fresh,
             has_kept: false,
+            record: Record::new(),
         }
     }
 
@@ -52,11 +54,13 @@ impl Drawer {
 }
 
 impl Cabinet for Drawer {
-    ghost use Rattle.title_file.specs.Files.{first_row_of, keeps_of};
+    ghost use Rattle.title_file.specs.Files.{asked_of, first_row_of, keeps_of};
 
     type File = PlantFile;
 
     type Shared = SharedFile;
+
+    ghost asked = { asked_of };
 
     ghost name = { file_name };
 
@@ -70,11 +74,13 @@ impl Cabinet for Drawer {
     /// Before anything of a file is written again, what lies behind its blocks is put behind the bytes of the file whose name has
     /// `.cut` more, but for a closed gate alone. Where that fails, the file is opened all the same.
     fn open(&mut self, alloc: Global, path: &str) -> Result<PlantFile, OpenFault>
+        ensures asked { asked_of self.new ≡ path.now ∷ asked_of self.old }
         ensures named { IfOk result (λ file. file_name file ≡ path.now) }
         ensures durable { IfOk result (λ file. Only (file_seen file) (file_may_leave file)) }
         ensures works { IfOk result (λ file. file_has_failed file ≡ false) }
         ensures kept { IfOk result (λ file. IsOpening path.now (first_row_of self.old) (keeps_of self.new) (calls_of file)) }
     {
+        self.record = self.record.then(&Note::Asked(path));
         match open(&self.rt, alloc, path, self.fresh) {
             Ok(opened) => {
                 self.has_kept = opened.is_kept;
@@ -89,10 +95,12 @@ impl Cabinet for Drawer {
 
     /// What is read is on the disk, but for what a sync that failed has left in doubt: only `open` writes that again.
     fn share(&mut self, alloc: Global, path: &str) -> Result<SharedFile, OpenFault>
+        ensures asked { asked_of self.new ≡ path.now ∷ asked_of self.old }
         ensures named { IfOk result (λ file. shared_name file ≡ path.now) }
         ensures works { IfOk result (λ file. shared_has_failed file ≡ false) }
         ensures held { IfOk result (λ file. keeps_writers_off (hold_of file) ≡ true) }
     {
+        self.record = self.record.then(&Note::Asked(path));
         match share(&self.rt, alloc, path) {
             Ok(file) => Ok(file),
             Err(error) => Err(fault_of(&error)),
@@ -101,6 +109,7 @@ impl Cabinet for Drawer {
 
     /// Takes no lock and changes nothing.
     fn look(&mut self, alloc: Global, path: &str) -> Result<Vec<u8>, OpenFault> {
+        self.record = self.record.then(&Note::Asked(path));
         match look(&self.rt, alloc, path) {
             Ok(bytes) => Ok(bytes),
             Err(error) => Err(fault_of(&error)),

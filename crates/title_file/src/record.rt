@@ -8,6 +8,8 @@ use std::marker::Model;
 /// A call on a file, and whether the system has answered that it is done.
 #[derive(Clone, Copy)]
 pub(crate) enum Note<'a> {
+    /// The file of this name was asked for.
+    Asked(&'a str),
     /// The file of this name was opened with these bytes, all of them on the disk.
     Opened(&'a str, &'a [u8]),
     /// These bytes were written at this offset.

@@ -1,5 +1,5 @@
 -- What each command line makes the program do where there is a cabinet of plants' files.
-use Rattle.std.specs.Prelude.{◌≡◌, ◌⊎◌, ℕ, List, Bool, Option, Result, Ok, Err}
+use Rattle.std.specs.Prelude.{◌≡◌, ◌⊎◌, ℕ, List, ◌∷◌, Bool, Option, Result, Ok, Err}
 use Rattle.title_disk.specs.declared.cabinet.OpenFault.{OpenFault}
 use Rattle.title_plan.specs.declared.line.Schedule.{Schedule}
 use Rattle.title_plan.specs.declared.line.Schedule.TheVariants as schedule
@@ -14,6 +14,22 @@ use Rattle.title_program.specs.{OfficeKeeping.{IsKeptOfficeServed}, Obeying.{IsO
 abbrev pub schedule_of : Work → Schedule
 schedule_of work.Run = schedule.Interleaved
 schedule_of work.Alone = schedule.Serial
+
+-- the names that a cabinet was asked for once a command was carried out, the newest first: that of the command's file, once, before those
+-- of before
+abbrev pub asked_by : Line → List (List ℕ) → List (List ℕ)
+asked_by (Kept plant after how) earlier = plant.now ∷ earlier
+asked_by (KeptDesk plant) earlier = plant.now ∷ earlier
+asked_by (KeptOffice plant after examiners tries) earlier = plant.now ∷ earlier
+asked_by (Look plant after) earlier = plant.now ∷ earlier
+asked_by (LookDesk plant) earlier = plant.now ∷ earlier
+asked_by (Check file as_script) earlier = file.now ∷ earlier
+asked_by line earlier = earlier
+
+-- words that are no command ask for no file
+abbrev pub Asks : Result Line LineFault → (names names_after : List (List ℕ)) → Type 0
+Asks (Ok line) names names_after = names_after ≡ asked_by line names
+Asks (Err why) names names_after = names_after ≡ names
 
 -- A file of the cabinet is seen by its name, by its bytes, by what a crash may leave of it, by its moment, by what a crash since one might
 -- have left, and by whether it has failed. Of a name it is known how its file may be refused.

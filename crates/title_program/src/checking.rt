@@ -1,6 +1,6 @@
 //! What stands in a plant's file, told on the output.
 
-ghost use Rattle.std.specs.Prelude.{◌≡◌, ◌≢◌, ◌⊎◌, Bool, OnOk, false, true};
+ghost use Rattle.std.specs.Prelude.{◌≡◌, ◌≢◌, ◌⊎◌, ◌∷◌, Bool, OnOk, false, true};
 ghost use Rattle.title_daybook.specs.{Files.{IsPlant}, Standing.{Standing}};
 ghost use Rattle.title_lasting.specs.Tells.{IsScript, Telling, script_text};
 ghost use Rattle.title_lasting.specs.declared.checking.TellFault.TheVariants as fault;
@@ -63,6 +63,7 @@ pub fn check<K: Cabinet, W: Sink>(
     requires sink_works { W.has_failed sink.old ≡ false }
     ensures seen { IsUnseen (K.refuses file.now) (W.taken sink.old) (W.taken sink.new) (W.has_failed sink.new) result.status
         ⊎ IsSeen (K.shows file.now) as_script (W.taken sink.old) (W.taken sink.new) (W.has_failed sink.new) result.status }
+    ensures asked { K.asked cabinet.new ≡ file.now ∷ K.asked cabinet.old }
     ensures quiet { IsQuiet result }
     ensures uncut { result.cut ≡ 0 }
 {

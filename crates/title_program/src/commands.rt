@@ -2,7 +2,7 @@
 
 ghost use Rattle.std.specs.{Prelude.{◌≡◌, false, map, IfOk, None, Result}, String.{string_bytes}};
 ghost use Rattle.title_command.specs.{CommandLine.{IsInRange}, declared.choice.{Line.{Line}, LineFault.{LineFault}}};
-ghost use Rattle.title_program.specs.{Endings.{IsQuiet}, ObeyingOnto.{IsAnsweredOnto, IsObeyedOnto, schedule_of}};
+ghost use Rattle.title_program.specs.{Endings.{IsQuiet}, ObeyingOnto.{Asks, IsAnsweredOnto, IsObeyedOnto, asked_by, schedule_of}};
 ghost use Rattle.title_program.specs.Obeying.{Complains, IsAnswered, IsAsked, IsObeyed, PrintsTract, Reads, ReadsFor, Tells};
 ghost use Rattle.title_program.specs.Obeying.{Turns, TurnsFor};
 
@@ -185,6 +185,7 @@ fn carry_out_onto<T: Threads + Wait + Sync, R: Source, W: Sink, V: Watch, K: Cab
         K.refuses K.shows line.entry
         (R.left source.old) (R.left source.new) (R.turns source.old) (R.turns source.new) (W.taken sink.old) (W.taken sink.new)
         (R.has_failed source.new) (W.has_failed sink.new) result.cut result.status }
+    ensures asked { K.asked cabinet.new ≡ asked_by line.entry (K.asked cabinet.old) }
     ensures turns { TurnsFor line.entry (R.turns source.old) (R.turns source.new) }
     ensures quiet { IsQuiet result }
 {
@@ -232,6 +233,7 @@ pub fn obey_onto<T: Threads + Wait + Sync, R: Source, W: Sink, E: Sink, V: Watch
         K.refuses K.shows line.entry
         (R.left source.old) (R.left source.new) (R.turns source.old) (R.turns source.new) (W.taken sink.old) (W.taken sink.new)
         (R.has_failed source.new) (W.has_failed sink.new) result.cut result.status }
+    ensures asked { K.asked cabinet.new ≡ asked_by line.entry (K.asked cabinet.old) }
     ensures turns { TurnsFor line.entry (R.turns source.old) (R.turns source.new) }
     ensures quiet { IsQuiet result }
     ensures told { Complains (W.has_failed sink.new) (E.taken errors.old) (E.taken errors.new) }
@@ -262,7 +264,8 @@ pub fn obey_words_onto<T: Threads + Wait + Sync, R: Source, W: Sink, E: Sink, V:
         (R.left source.old) (R.left source.new) (R.turns source.old) (R.turns source.new) (W.taken sink.old) (W.taken sink.new)
         (R.has_failed source.new) (W.has_failed sink.new) result.cut result.status
         × Turns asked (R.turns source.old) (R.turns source.new)
-        × Tells asked (W.has_failed sink.new) (E.taken errors.old) (E.taken errors.new) }
+        × Tells asked (W.has_failed sink.new) (E.taken errors.old) (E.taken errors.new)
+        × Asks asked (K.asked cabinet.old) (K.asked cabinet.new) }
     ensures quiet { IsQuiet result }
 {
     let Ok(texts) = borrowed(alloc, words) else {

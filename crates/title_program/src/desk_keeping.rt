@@ -1,6 +1,6 @@
 //! Rows at a desk that a plant's file keeps, answered from the source to the output as they come.
 
-ghost use Rattle.std.specs.{Prelude.{◌≡◌, ◌⊎◌, false}, Io.KnownBytes.{IsAtEnd}};
+ghost use Rattle.std.specs.{Prelude.{◌≡◌, ◌⊎◌, ◌∷◌, false}, Io.KnownBytes.{IsAtEnd}};
 ghost use Rattle.title_disk.specs.Crashes.{Only};
 ghost use Rattle.title_program.specs.{DeskKeeping.{IsKeptDeskServed, IsSittingServed}, Endings.{IsQuiet}};
 ghost use Rattle.title_program.specs.declared.status.Status.TheVariants as status;
@@ -61,6 +61,7 @@ pub fn serve_kept_desk<K: Cabinet, R: Source, W: Sink>(
     ensures served { IsKeptDeskServed K.File.seen K.File.may_leave K.File.moment K.File.left_since K.File.has_failed K.name K.refuses
         plant.now (R.left source.old) (R.left source.new) (W.taken sink.old) (W.taken sink.new) (R.has_failed source.new)
         (W.has_failed sink.new) result.cut result.status }
+    ensures asked { K.asked cabinet.new ≡ plant.now ∷ K.asked cabinet.old }
     ensures all { result.status ≡ status.Success → IsAtEnd (R.left source.new) }
     ensures quiet { IsQuiet result }
 {

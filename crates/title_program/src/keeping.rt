@@ -1,6 +1,6 @@
 //! Scripts that a plant's file keeps, served from the source to the output.
 
-ghost use Rattle.std.specs.{Prelude.{◌≡◌, ◌≢◌, ◌⊎◌, false}, Io.KnownBytes.{IsAtEnd}};
+ghost use Rattle.std.specs.{Prelude.{◌≡◌, ◌≢◌, ◌⊎◌, ◌∷◌, false}, Io.KnownBytes.{IsAtEnd}};
 ghost use Rattle.title_script.specs.Runs.{IsReadWithin};
 ghost use Rattle.title_lasting.specs.declared.fault.LastingFault.TheVariants as fault;
 ghost use Rattle.title_program.specs.{Faults.{fault_line, of_lasting, of_open}, Endings.{IsQuiet}, Keeping.{IsDayServed}};
@@ -98,6 +98,7 @@ pub fn serve_kept<K: Cabinet, R: Source, W: Sink, V: Watch>(
     ensures served { IsKeptServed K.File.seen K.File.may_leave K.File.moment K.File.left_since K.File.has_failed K.name K.refuses
         plant.now schedule after (R.left source.old) (R.left source.new) (R.turns source.old) (R.turns source.new)
         (W.taken sink.old) (W.taken sink.new) (R.has_failed source.new) (W.has_failed sink.new) result.cut result.status }
+    ensures asked { K.asked cabinet.new ≡ plant.now ∷ K.asked cabinet.old }
     ensures all { result.status ≡ status.Success → IsAtEnd (R.left source.new) }
     ensures quiet { IsQuiet result }
     ensures turns { IsReadWithin (R.turns source.old) (R.turns source.new) }

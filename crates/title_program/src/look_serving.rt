@@ -1,6 +1,6 @@
 //! Looks at a plant's file, served from the source to the output: nothing is kept.
 
-ghost use Rattle.std.specs.{Prelude.{◌≡◌, false}, Io.KnownBytes.{IsAtEnd}};
+ghost use Rattle.std.specs.{Prelude.{◌≡◌, ◌∷◌, false}, Io.KnownBytes.{IsAtEnd}};
 ghost use Rattle.title_script.specs.Runs.{IsReadWithin};
 ghost use Rattle.title_program.specs.{Endings.{IsQuiet}, LookServing.{IsLookDeskServed, IsLookServed, IsLookTaken, IsLookSat}};
 ghost use Rattle.title_program.specs.declared.status.Status.TheVariants as status;
@@ -66,6 +66,7 @@ pub fn serve_look<K: Cabinet, R: Source, W: Sink, V: Watch>(
     ensures served { IsLookServed K.Shared.seen K.Shared.may_leave K.Shared.moment K.Shared.left_since K.Shared.has_failed
         K.shared_name K.refuses plant.now after (R.left source.old) (R.left source.new) (R.turns source.old) (R.turns source.new)
         (W.taken sink.old) (W.taken sink.new) (R.has_failed source.new) (W.has_failed sink.new) result.cut result.status }
+    ensures asked { K.asked cabinet.new ≡ plant.now ∷ K.asked cabinet.old }
     ensures all { result.status ≡ status.Success → IsAtEnd (R.left source.new) }
     ensures quiet { IsQuiet result }
     ensures turns { IsReadWithin (R.turns source.old) (R.turns source.new) }
@@ -123,6 +124,7 @@ pub fn serve_look_desk<K: Cabinet, R: Source, W: Sink>(
     ensures served { IsLookDeskServed K.Shared.seen K.Shared.may_leave K.Shared.moment K.Shared.left_since K.Shared.has_failed
         K.shared_name K.refuses plant.now (R.left source.old) (R.left source.new) (W.taken sink.old) (W.taken sink.new)
         (R.has_failed source.new) (W.has_failed sink.new) result.cut result.status }
+    ensures asked { K.asked cabinet.new ≡ plant.now ∷ K.asked cabinet.old }
     ensures all { result.status ≡ status.Success → IsAtEnd (R.left source.new) }
     ensures quiet { IsQuiet result }
 {

@@ -1,6 +1,6 @@
 //! Scripts of offices that a plant's file keeps, served by threads from the source to the output.
 
-ghost use Rattle.std.specs.{Prelude.{◌≡◌, ◌≤◌, false}, Io.KnownBytes.{IsAtEnd}};
+ghost use Rattle.std.specs.{Prelude.{◌≡◌, ◌≤◌, ◌∷◌, false}, Io.KnownBytes.{IsAtEnd}};
 ghost use Rattle.title_disk.specs.Crashes.{Only};
 ghost use Rattle.title_office.specs.Offices.{most_seats};
 ghost use Rattle.title_script.specs.Runs.{IsReadWithin};
@@ -90,6 +90,7 @@ pub fn serve_kept_office<T: Threads + Wait + Sync, K: Cabinet, R: Source, W: Sin
     ensures served { IsKeptOfficeServed K.File.seen K.File.may_leave K.File.moment K.File.left_since K.File.has_failed K.name
         K.refuses plant.now examiners after (R.left source.old) (R.left source.new) (R.turns source.old) (R.turns source.new)
         (W.taken sink.old) (W.taken sink.new) (R.has_failed source.new) (W.has_failed sink.new) result.cut result.status }
+    ensures asked { K.asked cabinet.new ≡ plant.now ∷ K.asked cabinet.old }
     ensures all { result.status ≡ status.Success → IsAtEnd (R.left source.new) }
     ensures quiet { IsQuiet result }
     ensures turns { IsReadWithin (R.turns source.old) (R.turns source.new) }

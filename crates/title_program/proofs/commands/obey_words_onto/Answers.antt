@@ -11,6 +11,7 @@ returns-in_default-clause-answered g c = (
   (c.refuse.ensures.refused, refl, c.refuse.ensures.uncut),
   none_within (g.R.Source.turns c.args.source.now),
   c.refuse.ensures.told,
+  refl,
 )
 
 pub returns-clause-answered : goal.returns-clause-answered
@@ -21,4 +22,5 @@ returns-clause-answered g c =
       (c.refuse-in-Err.ensures.refused, refl, c.refuse-in-Err.ensures.uncut),
       none_within (g.R.Source.turns c.args.source.now),
       c.refuse-in-Err.ensures.told,
+      refl,
     )
