@@ -33,7 +33,7 @@ pub struct Drawer {
 }
 
 impl Drawer {
-    ghost use Rattle.title_file.specs.Files.{keeps_of};
+    ghost use Rattle.title_file.specs.{Calls.{names_of}, Files.{asked_of, keeps_of}};
 
     /// A drawer whose new files are these bytes: their first row, and a closed gate.
     pub fn new(rt: &HostRuntime, fresh: &'static [u8]) -> Drawer {
@@ -43,6 +43,13 @@ impl Drawer {
             has_kept: false,
             record: Record::new(),
         }
+    }
+
+    // The calls of before, and that the file of this name is asked for.
+    fn asked_for(&self, path: &str) -> Record
+        ensures asked { names_of result.calls ≡ path.now ∷ asked_of self.now }
+    {
+        self.record.then(&Note::Asked(path))
     }
 
     /// Whether the file that was opened last had bytes behind its blocks that don't count, and they were put into a file beside.
@@ -80,7 +87,7 @@ impl Cabinet for Drawer {
         ensures works { IfOk result (λ file. file_has_failed file ≡ false) }
         ensures kept { IfOk result (λ file. IsOpening path.now (first_row_of self.old) (keeps_of self.new) (calls_of file)) }
     {
-        self.record = self.record.then(&Note::Asked(path));
+        self.record = self.asked_for(path);
         match open(&self.rt, alloc, path, self.fresh) {
             Ok(opened) => {
                 self.has_kept = opened.is_kept;
@@ -100,7 +107,7 @@ impl Cabinet for Drawer {
         ensures works { IfOk result (λ file. shared_has_failed file ≡ false) }
         ensures held { IfOk result (λ file. keeps_writers_off (hold_of file) ≡ true) }
     {
-        self.record = self.record.then(&Note::Asked(path));
+        self.record = self.asked_for(path);
         match share(&self.rt, alloc, path) {
             Ok(file) => Ok(file),
             Err(error) => Err(fault_of(&error)),
@@ -109,7 +116,7 @@ impl Cabinet for Drawer {
 
     /// Takes no lock and changes nothing.
     fn look(&mut self, alloc: Global, path: &str) -> Result<Vec<u8>, OpenFault> {
-        self.record = self.record.then(&Note::Asked(path));
+        self.record = self.asked_for(path);
         match look(&self.rt, alloc, path) {
             Ok(bytes) => Ok(bytes),
             Err(error) => Err(fault_of(&error)),
